@@ -1,0 +1,2 @@
+// Programs as text: hex digits to bytes, and bytes to a listing of instructions.
+pub mod text;
