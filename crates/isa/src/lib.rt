@@ -104,29 +104,105 @@ pub fn decode(first: Option<u8>, second: Option<u8>) -> Result<Instruction, Refu
         // every other word has two bytes
         _ if second.is_none() => Err(Refusal::MissingByte),
         0x00..=0x0F => Ok(Instruction::Mvs { top: address * 16 }),
-        0x10..=0x1F => Ok(Instruction::Mvv { handler: operand as u16 * 16, vector: low }),
+        0x10..=0x1F => Ok(Instruction::Mvv {
+            handler: operand as u16 * 16,
+            vector: low,
+        }),
         0x20..=0x2F => Ok(Instruction::Jmp { target: address }),
         0x30..=0x3F => Ok(Instruction::Jsr { target: address }),
-        0x40..=0x4F => Ok(Instruction::Branch { flag: Flag::Zero, target: address }),
-        0x50..=0x5F => Ok(Instruction::Branch { flag: Flag::Negative, target: address }),
-        0x60..=0x6F => Ok(Instruction::Branch { flag: Flag::Carry, target: address }),
-        0x70..=0x7F => Ok(Instruction::Branch { flag: Flag::Overflow, target: address }),
-        0x80..=0x8F => Ok(Instruction::Mvi { byte: operand, dst: low }),
-        0x90..=0x9F if low == 0 => Ok(Instruction::Alu { op: Alu::Add, src, dst }),
-        0x90..=0x9F if low == 1 => Ok(Instruction::Alu { op: Alu::Sub, src, dst }),
-        0x90..=0x9F if low == 2 => Ok(Instruction::Alu { op: Alu::And, src, dst }),
-        0x90..=0x9F if low == 3 => Ok(Instruction::Alu { op: Alu::Lor, src, dst }),
-        0x90..=0x9F if low == 4 => Ok(Instruction::Alu { op: Alu::Sll, src, dst }),
-        0x90..=0x9F if low == 5 => Ok(Instruction::Alu { op: Alu::Rol, src, dst }),
-        0x90..=0x9F if low == 6 => Ok(Instruction::Alu { op: Alu::Srl, src, dst }),
-        0x90..=0x9F if low == 7 => Ok(Instruction::Alu { op: Alu::Ror, src, dst }),
-        0x90..=0x9F if low == 10 => Ok(Instruction::Alu { op: Alu::Not, src, dst }),
-        0x90..=0x9F if low == 11 => Ok(Instruction::Alu { op: Alu::Xor, src, dst }),
-        0x90..=0x9F if low == 12 => Ok(Instruction::Alu { op: Alu::Adc, src, dst }),
-        0x90..=0x9F if low == 13 => Ok(Instruction::Alu { op: Alu::Sbc, src, dst }),
-        0x90..=0x9F if low == 14 => Ok(Instruction::Adi { amount: src + 1, dst }),
-        0x90..=0x9F => Ok(Instruction::Sbi { amount: src + 1, dst }),
-        0xA0..=0xAF => Ok(Instruction::Aluc { code: low, src, dst }),
+        0x40..=0x4F => Ok(Instruction::Branch {
+            flag: Flag::Zero,
+            target: address,
+        }),
+        0x50..=0x5F => Ok(Instruction::Branch {
+            flag: Flag::Negative,
+            target: address,
+        }),
+        0x60..=0x6F => Ok(Instruction::Branch {
+            flag: Flag::Carry,
+            target: address,
+        }),
+        0x70..=0x7F => Ok(Instruction::Branch {
+            flag: Flag::Overflow,
+            target: address,
+        }),
+        0x80..=0x8F => Ok(Instruction::Mvi {
+            byte: operand,
+            dst: low,
+        }),
+        0x90..=0x9F if low == 0 => Ok(Instruction::Alu {
+            op: Alu::Add,
+            src,
+            dst,
+        }),
+        0x90..=0x9F if low == 1 => Ok(Instruction::Alu {
+            op: Alu::Sub,
+            src,
+            dst,
+        }),
+        0x90..=0x9F if low == 2 => Ok(Instruction::Alu {
+            op: Alu::And,
+            src,
+            dst,
+        }),
+        0x90..=0x9F if low == 3 => Ok(Instruction::Alu {
+            op: Alu::Lor,
+            src,
+            dst,
+        }),
+        0x90..=0x9F if low == 4 => Ok(Instruction::Alu {
+            op: Alu::Sll,
+            src,
+            dst,
+        }),
+        0x90..=0x9F if low == 5 => Ok(Instruction::Alu {
+            op: Alu::Rol,
+            src,
+            dst,
+        }),
+        0x90..=0x9F if low == 6 => Ok(Instruction::Alu {
+            op: Alu::Srl,
+            src,
+            dst,
+        }),
+        0x90..=0x9F if low == 7 => Ok(Instruction::Alu {
+            op: Alu::Ror,
+            src,
+            dst,
+        }),
+        0x90..=0x9F if low == 10 => Ok(Instruction::Alu {
+            op: Alu::Not,
+            src,
+            dst,
+        }),
+        0x90..=0x9F if low == 11 => Ok(Instruction::Alu {
+            op: Alu::Xor,
+            src,
+            dst,
+        }),
+        0x90..=0x9F if low == 12 => Ok(Instruction::Alu {
+            op: Alu::Adc,
+            src,
+            dst,
+        }),
+        0x90..=0x9F if low == 13 => Ok(Instruction::Alu {
+            op: Alu::Sbc,
+            src,
+            dst,
+        }),
+        0x90..=0x9F if low == 14 => Ok(Instruction::Adi {
+            amount: src + 1,
+            dst,
+        }),
+        0x90..=0x9F => Ok(Instruction::Sbi {
+            amount: src + 1,
+            dst,
+        }),
+        0xA0..=0xAF => Ok(Instruction::Aluc {
+            code: low,
+            src,
+            dst,
+        }),
         0xC0..=0xCF if low == 0 => Ok(Instruction::Mov { src, dst }),
         0xC0..=0xCF if low == 1 && src < 8 => Ok(Instruction::Ldb { pair: src, dst }),
         0xC0..=0xCF if low == 1 => Ok(Instruction::Lpb { pair: src - 8, dst }),
@@ -192,7 +268,11 @@ impl Instruction {
         ensures { λ r. ⌜ r ≡ lengthOf self ⌝ }
     {
         match self {
-            Instruction::Ret | Instruction::Str | Instruction::Lsr | Instruction::Hlt | Instruction::Rti => 1,
+            Instruction::Ret
+            | Instruction::Str
+            | Instruction::Lsr
+            | Instruction::Hlt
+            | Instruction::Rti => 1,
             Instruction::Psh { .. } | Instruction::Pop { .. } => 1,
             _ => 2,
         }
@@ -203,18 +283,29 @@ impl Instruction {
     {
         match self {
             Instruction::Mvs { top } => top % 16 == 0,
-            Instruction::Mvv { handler, vector } => handler % 16 == 0 && handler < 4096 && vector < 16,
-            Instruction::Jmp { target } | Instruction::Jsr { target } | Instruction::Branch { target, .. } => target < 4096,
+            Instruction::Mvv { handler, vector } => handler % 16 == 0
+                && handler < 4096
+                && vector < 16,
+            Instruction::Jmp { target }
+            | Instruction::Jsr { target }
+            | Instruction::Branch { target, .. } => target < 4096,
             Instruction::Mvi { dst, .. } => dst < 16,
-            Instruction::Alu { src, dst, .. } | Instruction::Mov { src, dst } => src < 16 && dst < 16,
-            Instruction::Adi { amount, dst } | Instruction::Sbi { amount, dst } => 1 <= amount && amount <= 16 && dst < 16,
+            Instruction::Alu { src, dst, .. } | Instruction::Mov { src, dst } => src < 16
+                && dst < 16,
+            Instruction::Adi { amount, dst } | Instruction::Sbi { amount, dst } => 1 <= amount
+                && amount <= 16
+                && dst < 16,
             Instruction::Aluc { code, src, dst } => code < 16 && src < 16 && dst < 16,
             Instruction::Ldb { pair, dst } | Instruction::Lpb { pair, dst } => pair < 8 && dst < 16,
             Instruction::Stb { src, pair } | Instruction::Spb { src, pair } => src < 16 && pair < 8,
             Instruction::Rie { pair } | Instruction::Sie { pair } => pair < 8,
             Instruction::Psh { src } => src < 16,
             Instruction::Pop { dst } => dst < 16,
-            Instruction::Ret | Instruction::Str | Instruction::Lsr | Instruction::Hlt | Instruction::Rti => true,
+            Instruction::Ret
+            | Instruction::Str
+            | Instruction::Lsr
+            | Instruction::Hlt
+            | Instruction::Rti => true,
             Instruction::Sys { .. } => true,
         }
     }

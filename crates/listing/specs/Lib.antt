@@ -1,1 +1,4 @@
+pub mod Digits
+pub mod Hex
+pub mod Reader
 pub mod Text

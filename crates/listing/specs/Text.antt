@@ -11,12 +11,9 @@ use Rattle.isa.specs.declared.Flag.{Flag}
 use Rattle.isa.specs.declared.Flag.the-variants as flag
 use Rattle.isa.specs.declared.Instruction.{Instruction}
 use Rattle.isa.specs.declared.Instruction.the-variants as i
+use Rattle.listing.specs.Digits.{hexDigit}
 use Rattle.listing.specs.declared.text.Width.{Width}
 use Rattle.listing.specs.declared.text.Width.the-variants.{Two, Three, Four}
-
--- the character of a hex digit
-abbrev pub hexDigit : ℕ → ℕ
-hexDigit n = cond (ltb n 10) (48 + n) (55 + n)
 
 -- the last digits of a number, as many as asked for
 abbrev pub hexDigits : ℕ → ℕ → List ℕ
@@ -78,10 +75,10 @@ abbrev pub unitText : ℕ → ℕ → ℕ → List ℕ
 unitText code src dst =
     cond (eqb code 0) (registersText (codes "asb") src dst)
     (cond (eqb code 1) (registersText (codes "aib") src dst)
-      (cond (eqb code 2) (registersText (codes "amc") src dst)
-        (cond (eqb code 3) (registersText (codes "aic") src dst)
-          (cond (eqb code 4) (registersText (codes "swd") src dst)
-            (spaced (codes "aluc") (listed (decimal code) (listed (registerText src) (registerText dst))))))))
+    (cond (eqb code 2) (registersText (codes "amc") src dst)
+    (cond (eqb code 3) (registersText (codes "aic") src dst)
+    (cond (eqb code 4) (registersText (codes "swd") src dst)
+    (spaced (codes "aluc") (listed (decimal code) (listed (registerText src) (registerText dst))))))))
 
 abbrev pub instructionText : Instruction → List ℕ
 instructionText (i.Mvs top) = spaced (codes "mvs") (hexText 4 top)

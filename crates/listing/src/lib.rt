@@ -1,2 +1,3 @@
 // Programs as text: hex digits to bytes, and bytes to a listing of instructions.
+pub mod hex;
 pub mod text;

@@ -1,10 +1,10 @@
 // Instructions in the manual's syntax.
 ghost use mathlib.Core.Path.{_≡_};
-ghost use Prim.Native.Nat.{_<_};
 ghost use Rattle.std.specs.declared.option.Option.the-variants.{Some};
 ghost use Rattle.std.specs.Of.String.{string-bytes};
 ghost use Rattle.std.specs.Vec.{made};
-ghost use Rattle.listing.specs.Text.{hexDigit, hexText, digitCount, registerText, aluName, branchName, addressText, registersText, numberText, storeText, unitText, instructionText};
+ghost use Rattle.listing.specs.Text.{hexText, digitCount, registerText, aluName, branchName, addressText, registersText, numberText, storeText, unitText, instructionText};
+use super::hex::hex_digit;
 use isa::Alu;
 use isa::Flag;
 use isa::Instruction;
@@ -14,7 +14,7 @@ use std::fmt;
 
 // How many hex digits a number is written with.
 #[derive(Clone, Copy)]
-enum Width {
+pub(crate) enum Width {
     Two,
     Three,
     Four,
@@ -22,28 +22,19 @@ enum Width {
 
 // A number as 0x and its last digits.
 #[derive(Clone, Copy)]
-struct Hex {
-    width: Width,
-    value: u16,
+pub(crate) struct Hex {
+    pub width: Width,
+    pub value: u16,
 }
 
-// The digit of a number below 16.
-fn hex_digit(n: u16) -> char
-    requires { ⌜ n < 16 ⌝ }
-    ensures { λ r. ⌜ r ≡ hexDigit n ⌝ }
-{
-    let code = if n < 10 { 48 + n as u8 } else { 55 + n as u8 };
-    code as char
-}
-
-impl fmt::Display for Hex as HexDisplay {
+pub impl fmt::Display for Hex as HexDisplay {
     ghost shown = { λ x. Some (hexText (digitCount (x .width)) (x .value)) };
 
     fn fmt<W: fmt::Write>(&self, f: &mut fmt::Formatter<W>) -> fmt::Result {
-        let a = hex_digit(self.value / 4096 % 16);
-        let b = hex_digit(self.value / 256 % 16);
-        let c = hex_digit(self.value / 16 % 16);
-        let d = hex_digit(self.value % 16);
+        let a = hex_digit((self.value / 4096 % 16) as u8);
+        let b = hex_digit((self.value / 256 % 16) as u8);
+        let c = hex_digit((self.value / 16 % 16) as u8);
+        let d = hex_digit((self.value % 16) as u8);
         match self.width {
             Width::Two => write!(f, "0x{c}{d}"),
             Width::Three => write!(f, "0x{b}{c}{d}"),
@@ -108,18 +99,27 @@ pub fn instruction_text(heap: Global, instruction: Instruction) -> Result<String
 {
     match instruction {
         Instruction::Mvs { top } => {
-            let top = Hex { width: Width::Four, value: top };
+            let top = Hex {
+                width: Width::Four,
+                value: top,
+            };
             format!(heap, "mvs {top}")
         }
         Instruction::Mvv { handler, vector } => {
-            let handler = Hex { width: Width::Three, value: handler };
+            let handler = Hex {
+                width: Width::Three,
+                value: handler,
+            };
             format!(heap, "mvv {handler}, iv{vector}")
         }
         Instruction::Jmp { target } => address_text(heap, "jmp", target),
         Instruction::Jsr { target } => address_text(heap, "jsr", target),
         Instruction::Branch { flag, target } => address_text(heap, branch_name(flag), target),
         Instruction::Mvi { byte, dst } => {
-            let byte = Hex { width: Width::Two, value: byte as u16 };
+            let byte = Hex {
+                width: Width::Two,
+                value: byte as u16,
+            };
             let dst = Register(dst);
             format!(heap, "mvi {byte}, {dst}")
         }
@@ -140,7 +140,10 @@ pub fn instruction_text(heap: Global, instruction: Instruction) -> Result<String
         Instruction::Hlt => String::from_str(heap, "hlt"),
         Instruction::Rti => String::from_str(heap, "rti"),
         Instruction::Sys { byte } => {
-            let byte = Hex { width: Width::Two, value: byte as u16 };
+            let byte = Hex {
+                width: Width::Two,
+                value: byte as u16,
+            };
             format!(heap, "sys {byte}")
         }
         Instruction::Psh { src } => {
@@ -175,7 +178,10 @@ fn unit_text(heap: Global, code: u8, src: u8, dst: u8) -> Result<String, AllocEr
 fn address_text(heap: Global, name: &str, target: u16) -> Result<String, AllocError>
     ensures { λ r. ⌜ made r (λ t. string-bytes t ≡ addressText (now (name .entry)) target) ⌝ }
 {
-    let target = Hex { width: Width::Three, value: target };
+    let target = Hex {
+        width: Width::Three,
+        value: target,
+    };
     format!(heap, "{name} {target}")
 }
 
