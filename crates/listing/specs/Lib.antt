@@ -1,4 +1,5 @@
 pub mod Digits
 pub mod Hex
+pub mod Lines
 pub mod Reader
 pub mod Text

@@ -1,3 +1,4 @@
 // Programs as text: hex digits to bytes, and bytes to a listing of instructions.
 pub mod hex;
+pub mod lines;
 pub mod text;
