@@ -1,3 +1,4 @@
 pub mod Listing
+pub mod Places
 pub mod Reading
 pub mod WrittenHex

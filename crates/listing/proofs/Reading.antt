@@ -41,7 +41,7 @@ counts inComment at c cs out line blank hash = search needs
 
 -- a fault at one character is the text's
 pub fault-settles : (e : Fault) (said later : Result (List ℕ) Fault) → Settles (Err e) said later → ReadAs (Err e) said
-fault-settles (NoDigit at) said later h = h
+fault-settles (NoDigit at c) said later h = h
 fault-settles (OddDigits at) said later h = h
 fault-settles (TooLong at) said later h = h
 fault-settles NoMemory said later h = tt

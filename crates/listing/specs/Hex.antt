@@ -39,12 +39,12 @@ paired room None [] = Ok []
 paired room (Some first) [] = Err (OddDigits (first .at))
 paired room None (c ∷ cs) =
     elim (digitOf (c .1)) [
-      | None ↦ Err (NoDigit (c .0))
+      | None ↦ Err (NoDigit (c .0) (c .1))
       | Some v ↦ cond (eqb room 0) (Err (TooLong (c .0))) (paired room (Some (record { at = c .0; value = v })) cs)
     ]
 paired room (Some first) (c ∷ cs) =
     elim (digitOf (c .1)) [
-      | None ↦ Err (NoDigit (c .0))
+      | None ↦ Err (NoDigit (c .0) (c .1))
       | Some v ↦ before ((first .value * 16 + v) ∷ []) (paired (room - 1) None cs)
     ]
 
@@ -56,6 +56,6 @@ readHex text = paired 4096 None (counted false 0 text)
 abbrev pub ReadAs : Result (Vec ℕ Global) Fault → Result (List ℕ) Fault → Type 0
 ReadAs (Ok v) said = said ≡ Ok (vec-items v)
 ReadAs (Err NoMemory) said = Unit {0}
-ReadAs (Err (NoDigit at)) said = said ≡ Err (NoDigit at)
+ReadAs (Err (NoDigit at c)) said = said ≡ Err (NoDigit at c)
 ReadAs (Err (OddDigits at)) said = said ≡ Err (OddDigits at)
 ReadAs (Err (TooLong at)) said = said ≡ Err (TooLong at)

@@ -1,4 +1,5 @@
 pub mod Digits
+pub mod Faults
 pub mod Hex
 pub mod Lines
 pub mod Reader

@@ -31,7 +31,7 @@ resumed r at rest = goingOn r (counted (r .«in_comment») at rest)
 abbrev pub Settles : Result (Unit {0}) Fault → Result (List ℕ) Fault → Result (List ℕ) Fault → Type 0
 Settles (Ok done) said later = said ≡ later
 Settles (Err NoMemory) said later = Unit {0}
-Settles (Err (NoDigit k)) said later = said ≡ Err (NoDigit k)
+Settles (Err (NoDigit k c)) said later = said ≡ Err (NoDigit k c)
 Settles (Err (OddDigits k)) said later = said ≡ Err (OddDigits k)
 Settles (Err (TooLong k)) said later = said ≡ Err (TooLong k)
 

@@ -19,7 +19,7 @@ pub const MOST_BYTES: usize = 4096;
 // Why a text is no program, with the offset of the character at fault.
 #[derive(Clone, Copy, Debug, PartialEq, Eq)]
 pub enum Fault {
-    NoDigit { at: usize },
+    NoDigit { at: usize, byte: u8 },
     OddDigits { at: usize },
     TooLong { at: usize },
     NoMemory,
@@ -104,7 +104,7 @@ impl Reader {
         ensures took { λ r. ⌜ TookDigit (now (self .entry)) at b r (now (self .exit)) ⌝ }
     {
         let Some(value) = digit_value(b) else {
-            return Err(Fault::NoDigit { at });
+            return Err(Fault::NoDigit { at, byte: b });
         };
         match self.first {
             None => {
