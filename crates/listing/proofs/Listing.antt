@@ -5,10 +5,10 @@ use mathlib.Core.List.{List, [], _∷_, _++_, append-assoc, append-nil}
 use Prim.Native.Nat.{ℕ, _+_, _<_}
 use native.Mathlib.Omega.{arith}
 use lib.Dec.{eqb, ltb}
-use lib.ListN.{length, getD, drop}
+use lib.ListN.{length, getD, take, drop}
 use borrow.Author.Needs.{needs}
 use native.Mathlib.Nat.{add-zero}
-use Rattle.std.proofs.shelf.Lists.{drop-more, drop-drop, getD-drop, length-drop}
+use Rattle.std.proofs.shelf.Lists.{take-more, drop-more, drop-drop, getD-drop, length-drop}
 use Rattle.std.specs.declared.option.Option.{Option}
 use Rattle.std.specs.declared.option.Option.the-variants.{None, Some}
 use Rattle.isa.specs.declared.Word.{Word}
@@ -18,7 +18,7 @@ use Rattle.listing.specs.declared.lines.Counts.{Counts}
 use Rattle.listing.specs.declared.lines.Line.{Line}
 use Rattle.listing.specs.declared.lines.Reading.{Reading}
 use Rattle.listing.specs.declared.lines.Reading.the-variants.{Known, Reserved, CutOff}
-use Rattle.listing.specs.Lines.{Below, byteAt, countedTo, lineOf, linesOf, sizeOf, wordAt, wordBytes, bytesOf}
+use Rattle.listing.specs.Lines.{Below, byteAt, countedTo, lineOf, linesOf, sizeOf, wordAt, wordBytes, bytesOf, lineText, linesText}
 
 pub below-more : (r : Reading) (c : Counts) (n : ℕ) → Below c n → Below (countedTo r c) (n + 1)
 below-more (Known x) c n h = (omega arith, omega arith, omega arith)
@@ -34,7 +34,7 @@ after-line at a b rest (One x) = refl
 after-line at a b rest (Two x y) = refl
 
 first-line : (at a : ℕ) (rest : List ℕ) (second : Option ℕ) → byteAt rest 0 ≡ second →
-  linesOf at (a ∷ rest) ≡ lineOf at a second ∷ linesOf (at + sizeOf (lineOf at a second .word)) (drop (sizeOf (lineOf at a second .word)) (a ∷ rest))
+    linesOf at (a ∷ rest) ≡ lineOf at a second ∷ linesOf (at + sizeOf (lineOf at a second .word)) (drop (sizeOf (lineOf at a second .word)) (a ∷ rest))
 first-line at a [] second e = subst (λ o. linesOf at (a ∷ []) ≡ lineOf at a o ∷ linesOf (at + sizeOf (lineOf at a o .word)) (drop (sizeOf (lineOf at a o .word)) (a ∷ []))) e refl
 first-line at a (b ∷ rest) second e =
     subst (λ o. linesOf at (a ∷ b ∷ rest) ≡ lineOf at a o ∷ linesOf (at + sizeOf (lineOf at a o .word)) (drop (sizeOf (lineOf at a o .word)) (a ∷ b ∷ rest))) (sym (front-byte b rest) ∙ e)
@@ -105,3 +105,17 @@ module _ (bs : List ℕ) (at : ℕ) (h : at < length bs) where
         ∙ append-assoc (bytesOf before) (wordBytes (line .word)) (drop (at + size) bs)
         ∙ ap (λ l. bytesOf before ++ l) (sym next-bytes)
         ∙ so
+
+text-push : (ls : List Line) (l : Line) → linesText (ls ++ (l ∷ [])) ≡ linesText ls ++ (lineText l ++ (10 ∷ []))
+text-push [] l = refl
+text-push (k ∷ ls) l = ap (λ t. lineText k ++ (10 ∷ t)) (text-push ls l) ∙ sym (append-assoc (lineText k) (10 ∷ linesText ls) (lineText l ++ (10 ∷ [])))
+
+-- a line more, and its end
+pub text-more : (ls : List Line) (i : ℕ) (d : Line) (text one text₁ text₂ : List ℕ) → i < length ls → text ≡ linesText (take i ls) → one ≡ lineText (getD ls i d) →
+    text₁ ≡ text ++ one → text₂ ≡ text₁ ++ (10 ∷ []) → text₂ ≡ linesText (take (i + 1) ls)
+text-more ls i d text one text₁ text₂ h so is first second =
+    second
+    ∙ (λ j. (first ∙ (λ k. so k ++ is k)) j ++ (10 ∷ []))
+    ∙ append-assoc (linesText (take i ls)) (lineText (getD ls i d)) (10 ∷ [])
+    ∙ sym (text-push (take i ls) (getD ls i d))
+    ∙ ap linesText (sym (take-more ls i d h))

@@ -95,6 +95,14 @@ countsOf ls = tallied (record { instructions = 0; reserved = 0; «cut_off» = 0 
 abbrev pub summaryText : ℕ → Counts → List ℕ
 summaryText bytes c =
     decimal bytes ++ (codes " bytes, "
-      ++ (decimal (c .instructions) ++ (codes " instructions, "
-      ++ (decimal (c .reserved) ++ (codes " reserved, "
-      ++ (decimal (c .«cut_off») ++ codes " cut off"))))))
+    ++ (decimal (c .instructions) ++ (codes " instructions, "
+    ++ (decimal (c .reserved) ++ (codes " reserved, "
+    ++ (decimal (c .«cut_off») ++ codes " cut off"))))))
+
+-- each line ends with a line end (10)
+abbrev pub linesText : List Line → List ℕ
+linesText [] = []
+linesText (l ∷ ls) = lineText l ++ (10 ∷ linesText ls)
+
+abbrev pub listingText : List ℕ → List ℕ
+listingText program = linesText (linesOf 0 program) ++ (summaryText (length program) (countsOf (linesOf 0 program)) ++ (10 ∷ []))

@@ -44,7 +44,10 @@ impl fmt::Display for Found as FoundDisplay {
             let printed = byte as char;
             write!(f, "'{printed}'")
         } else {
-            let number = Hex { width: Width::Two, value: byte as u16 };
+            let number = Hex {
+                width: Width::Two,
+                value: byte as u16,
+            };
             write!(f, "byte {number}")
         }
     }
@@ -58,9 +61,15 @@ impl Place {
         ensures { λ r. ⌜ r ≡ advanced self b ⌝ }
     {
         if b == b'\n' {
-            Place { line: self.line + 1, column: 0 }
+            Place {
+                line: self.line + 1,
+                column: 0,
+            }
         } else {
-            Place { line: self.line, column: self.column + 1 }
+            Place {
+                line: self.line,
+                column: self.column + 1,
+            }
         }
     }
 }
@@ -103,7 +112,12 @@ pub fn fault_text(heap: Global, text: &[u8], fault: Fault) -> Result<String, All
             let what = no_digit_text(heap, byte)?;
             placed_text(heap, text, at, what.as_str())
         }
-        Fault::OddDigits { at } => placed_text(heap, text, at, "an odd number of digits, this one is left over"),
+        Fault::OddDigits { at } => placed_text(
+            heap,
+            text,
+            at,
+            "an odd number of digits, this one is left over",
+        ),
         Fault::TooLong { at } => placed_text(heap, text, at, "more than 4096 bytes"),
         Fault::NoMemory => String::from_str(heap, "out of memory"),
     }

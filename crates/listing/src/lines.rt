@@ -4,7 +4,7 @@ ghost use Prim.Native.Nat.{_-_, _^_};
 ghost use Rattle.std.specs.Of.String.{string-bytes};
 ghost use Rattle.std.specs.Of.Vec.{vec-items};
 ghost use Rattle.std.specs.Vec.{made};
-ghost use Rattle.listing.specs.Lines.{byteAt, Below, countedTo, lineOf, sizeOf, linesOf, bytesOf, lineText, wordText, readingText, countsOf, summaryText};
+ghost use Rattle.listing.specs.Lines.{byteAt, Below, countedTo, lineOf, sizeOf, linesOf, bytesOf, lineText, wordText, readingText, countsOf, summaryText, linesText, listingText};
 use super::hex::write_hex;
 use super::text::Hex;
 use super::text::HexDisplay;
@@ -52,10 +52,22 @@ fn line_at(address: usize, first: u8, second: Option<u8>) -> Line
                 Some(second) if instruction.length() == 2 => Word::Two(first, second),
                 _ => lone,
             };
-            Line { address, word, reading: Reading::Known(instruction) }
+            Line {
+                address,
+                word,
+                reading: Reading::Known(instruction),
+            }
         }
-        Err(Refusal::ReservedWord) => Line { address, word: lone, reading: Reading::Reserved },
-        Err(_) => Line { address, word: lone, reading: Reading::CutOff },
+        Err(Refusal::ReservedWord) => Line {
+            address,
+            word: lone,
+            reading: Reading::Reserved,
+        },
+        Err(_) => Line {
+            address,
+            word: lone,
+            reading: Reading::CutOff,
+        },
     }
 }
 
@@ -118,7 +130,10 @@ fn reading_text(heap: Global, reading: Reading) -> Result<String, AllocError>
 pub fn line_text(heap: Global, line: Line) -> Result<String, AllocError>
     ensures { λ r. ⌜ made r (λ t. string-bytes t ≡ lineText line) ⌝ }
 {
-    let address = Hex { width: Width::Three, value: (line.address % 4096) as u16 };
+    let address = Hex {
+        width: Width::Three,
+        value: (line.address % 4096) as u16,
+    };
     let word = word_text(heap, line.word)?;
     let reading = reading_text(heap, line.reading)?;
     format!(heap, "{address}  {word}  {reading}")
@@ -130,11 +145,27 @@ impl Counts {
         requires { ⌜ Below self (2 ^ 64 - 1) ⌝ }
         ensures { λ r. ⌜ r ≡ countedTo reading self ⌝ }
     {
-        let Counts { instructions, reserved, cut_off } = self;
+        let Counts {
+            instructions,
+            reserved,
+            cut_off,
+        } = self;
         match reading {
-            Reading::Known(_) => Counts { instructions: instructions + 1, reserved, cut_off },
-            Reading::Reserved => Counts { instructions, reserved: reserved + 1, cut_off },
-            Reading::CutOff => Counts { instructions, reserved, cut_off: cut_off + 1 },
+            Reading::Known(_) => Counts {
+                instructions: instructions + 1,
+                reserved,
+                cut_off,
+            },
+            Reading::Reserved => Counts {
+                instructions,
+                reserved: reserved + 1,
+                cut_off,
+            },
+            Reading::CutOff => Counts {
+                instructions,
+                reserved,
+                cut_off: cut_off + 1,
+            },
         }
     }
 }
@@ -143,7 +174,11 @@ impl Counts {
 pub fn count(lines: &[Line]) -> Counts
     ensures { λ r. ⌜ r ≡ countsOf (now (lines .entry)) ⌝ }
 {
-    let mut counts = Counts { instructions: 0, reserved: 0, cut_off: 0 };
+    let mut counts = Counts {
+        instructions: 0,
+        reserved: 0,
+        cut_off: 0,
+    };
     for line in lines {
         counts = counts.with(line.reading);
     }
@@ -157,5 +192,31 @@ pub fn summary_text(heap: Global, bytes: usize, counts: Counts) -> Result<String
     let instructions = counts.instructions;
     let reserved = counts.reserved;
     let cut_off = counts.cut_off;
-    format!(heap, "{bytes} bytes, {instructions} instructions, {reserved} reserved, {cut_off} cut off")
+    format!(
+        heap,
+        "{bytes} bytes, {instructions} instructions, {reserved} reserved, {cut_off} cut off"
+    )
+}
+
+// Lines one under another.
+fn lines_text(heap: Global, lines: &[Line]) -> Result<String, AllocError>
+    ensures { λ r. ⌜ made r (λ t. string-bytes t ≡ linesText (now (lines .entry))) ⌝ }
+{
+    let mut text = String::new(heap);
+    for line in lines {
+        let one = line_text(heap, *line)?;
+        text.push_str(one.as_str())?;
+        text.push_str("\n")?;
+    }
+    Ok(text)
+}
+
+// A program's listing: its lines, then what they count to.
+pub fn listing_text(heap: Global, program: &[u8]) -> Result<String, AllocError>
+    ensures { λ r. ⌜ made r (λ t. string-bytes t ≡ listingText (now (program .entry))) ⌝ }
+{
+    let listed = lines(heap, program)?;
+    let text = lines_text(heap, listed.as_slice())?;
+    let summary = summary_text(heap, program.len(), count(listed.as_slice()))?;
+    format!(heap, "{text}{summary}\n")
 }

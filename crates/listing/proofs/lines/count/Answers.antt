@@ -10,8 +10,7 @@ use Rattle.listing.proofs.lines.count.Needs as need
 pub loop-line-again : need.loop-line-again
 loop-line-again c =
     let i = c .loop-line .line-index in
-    let here = at-drop-more (tallied (c .loop-line .counts)) (c .args .lines .now) i _ (omega arith) in
-    (
+    let here = at-drop-more (tallied (c .loop-line .counts)) (c .args .lines .now) i _ (omega arith) in (
       ap (λ n. tallied n (drop (i + 1) (c .args .lines .now))) (c .with-counts .ensures) ∙ sym here ∙ c .loop-line .inv .0,
       subst (λ n. Below n (i + 1 + 1)) (sym (c .with-counts .ensures)) (below-more _ (c .loop-line .counts) (i + 1) (c .loop-line .inv .1)),
     )

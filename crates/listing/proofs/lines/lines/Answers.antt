@@ -12,8 +12,7 @@ loop-at-again c =
     let is = c .line-at-line .ensures ∙ ap (lineOf (c .loop-at .at) _) (c .byte-at .ensures) in
     let old = vec-items (c .loop-at .lines) in
     let new = vec-items (c .push .last .self) in
-    let pushed = c .in-Continue-push .ensures tt .items in
-    (
+    let pushed = c .in-Continue-push .ensures tt .items in (
       lines-more (c .args .program .now) (c .loop-at .at) (omega arith) old new is (c .size-at .ensures) pushed (c .loop-at .inv .0),
       bytes-more (c .args .program .now) (c .loop-at .at) (omega arith) old new is (c .size-at .ensures) pushed (c .loop-at .inv .1),
     )

@@ -15,6 +15,6 @@ pub returns-then-byte-le126 : need.returns-then-byte-le126
 returns-then-byte-le126 g c =
     let b = c .args .self .now .0 in
     λ plain ok.
-        subst (λ l. Put (g .W·Write .took) (c .args .f .now) l (c .write .last .self))
-        (ap (λ l. 39 ∷ (l ++ (39 ∷ []))) (encode-ascii b (omega arith)) ∙ quoted b (omega arith) (omega arith))
-        (c .write .ensures .shows plain ok)
+    subst (λ l. Put (g .W·Write .took) (c .args .f .now) l (c .write .last .self))
+    (ap (λ l. 39 ∷ (l ++ (39 ∷ []))) (encode-ascii b (omega arith)) ∙ quoted b (omega arith) (omega arith))
+    (c .write .ensures .shows plain ok)
