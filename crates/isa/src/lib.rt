@@ -352,3 +352,6 @@ fn with_address(opcode: u8, address: u16) -> Word
 {
     Word::Two(opcode * 16 + (address / 256) as u8, (address % 256) as u8)
 }
+
+#[cfg(test)]
+mod tests;

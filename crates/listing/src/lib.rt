@@ -3,3 +3,6 @@ pub mod faults;
 pub mod hex;
 pub mod lines;
 pub mod text;
+
+#[cfg(test)]
+mod tests;
