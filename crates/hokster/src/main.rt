@@ -62,8 +62,12 @@ fn answer(rt: &LibcRuntime) -> Result<String, Failure> {
     let words: Vec<String> = env::args(rt)?.collect(heap)?;
     match words.as_slice() {
         [_, command, path] if command.as_str() == "list" => list(rt, path.as_str()),
-        [_, command, ..] if command.as_str() == "list" => Err(Failure::Told(format!(heap, "list takes one file; {USAGE}")?)),
-        [_, command, ..] => Err(Failure::Told(format!(heap, "unknown command '{command}'; {USAGE}")?)),
+        [_, command, ..] if command.as_str() == "list" => Err(Failure::Told(
+            format!(heap, "list takes one file; {USAGE}")?,
+        )),
+        [_, command, ..] => Err(Failure::Told(
+            format!(heap, "unknown command '{command}'; {USAGE}")?,
+        )),
         _ => Err(Failure::Told(format!(heap, "no command; {USAGE}")?)),
     }
 }

@@ -32,34 +32,48 @@ pub enum Alu {
     Sbc,
 }
 
-// An instruction, its operands as a programmer writes them.
+// An instruction, its operands as a programmer writes them and in that order. Registers 0 to 7 are
+// r0 to r7 and 8 to 15 are a0 to a7; pair i is a_i and r_i.
 #[derive(Clone, Copy, Debug, PartialEq, Eq)]
 pub enum Instruction {
-    Mvs { top: u16 },
-    Mvv { handler: u16, vector: u8 },
-    Jmp { target: u16 },
-    Jsr { target: u16 },
-    Branch { flag: Flag, target: u16 },
-    Mvi { byte: u8, dst: u8 },
-    Alu { op: Alu, src: u8, dst: u8 },
-    Adi { amount: u8, dst: u8 },
-    Sbi { amount: u8, dst: u8 },
-    Aluc { code: u8, src: u8, dst: u8 },
-    Mov { src: u8, dst: u8 },
-    Ldb { pair: u8, dst: u8 },
-    Lpb { pair: u8, dst: u8 },
-    Stb { src: u8, pair: u8 },
-    Spb { src: u8, pair: u8 },
+    // one above the new stack pointer
+    Mvs(u16),
+    // the handler's address, the vector
+    Mvv(u16, u8),
+    // the address to go on at, here and in the next two
+    Jmp(u16),
+    Jsr(u16),
+    Branch(Flag, u16),
+    // the byte, the destination
+    Mvi(u8, u8),
+    // the source, the destination
+    Alu(Alu, u8, u8),
+    // the amount, the destination
+    Adi(u8, u8),
+    Sbi(u8, u8),
+    // the code, the source, the destination
+    Aluc(u8, u8, u8),
+    // the source, the destination
+    Mov(u8, u8),
+    // the pair with the address, the destination
+    Ldb(u8, u8),
+    Lpb(u8, u8),
+    // the source, the pair with the address
+    Stb(u8, u8),
+    Spb(u8, u8),
     Ret,
     Str,
     Lsr,
-    Rie { pair: u8 },
-    Sie { pair: u8 },
+    // the pair
+    Rie(u8),
+    Sie(u8),
     Hlt,
     Rti,
-    Sys { byte: u8 },
-    Psh { src: u8 },
-    Pop { dst: u8 },
+    // the byte that is said
+    Sys(u8),
+    // the register
+    Psh(u8),
+    Pop(u8),
 }
 
 // The bytes of an instruction.
@@ -99,118 +113,42 @@ pub fn decode(first: Option<u8>, second: Option<u8>) -> Result<Instruction, Refu
         0xC0..=0xCF if low == 5 => Ok(Instruction::Lsr),
         0xC0..=0xCF if low == 8 => Ok(Instruction::Hlt),
         0xC0..=0xCF if low == 9 => Ok(Instruction::Rti),
-        0xD0..=0xDF => Ok(Instruction::Psh { src: low }),
-        0xE0..=0xEF => Ok(Instruction::Pop { dst: low }),
+        0xD0..=0xDF => Ok(Instruction::Psh(low)),
+        0xE0..=0xEF => Ok(Instruction::Pop(low)),
         // every other word has two bytes
         _ if second.is_none() => Err(Refusal::MissingByte),
-        0x00..=0x0F => Ok(Instruction::Mvs { top: address * 16 }),
-        0x10..=0x1F => Ok(Instruction::Mvv {
-            handler: operand as u16 * 16,
-            vector: low,
-        }),
-        0x20..=0x2F => Ok(Instruction::Jmp { target: address }),
-        0x30..=0x3F => Ok(Instruction::Jsr { target: address }),
-        0x40..=0x4F => Ok(Instruction::Branch {
-            flag: Flag::Zero,
-            target: address,
-        }),
-        0x50..=0x5F => Ok(Instruction::Branch {
-            flag: Flag::Negative,
-            target: address,
-        }),
-        0x60..=0x6F => Ok(Instruction::Branch {
-            flag: Flag::Carry,
-            target: address,
-        }),
-        0x70..=0x7F => Ok(Instruction::Branch {
-            flag: Flag::Overflow,
-            target: address,
-        }),
-        0x80..=0x8F => Ok(Instruction::Mvi {
-            byte: operand,
-            dst: low,
-        }),
-        0x90..=0x9F if low == 0 => Ok(Instruction::Alu {
-            op: Alu::Add,
-            src,
-            dst,
-        }),
-        0x90..=0x9F if low == 1 => Ok(Instruction::Alu {
-            op: Alu::Sub,
-            src,
-            dst,
-        }),
-        0x90..=0x9F if low == 2 => Ok(Instruction::Alu {
-            op: Alu::And,
-            src,
-            dst,
-        }),
-        0x90..=0x9F if low == 3 => Ok(Instruction::Alu {
-            op: Alu::Lor,
-            src,
-            dst,
-        }),
-        0x90..=0x9F if low == 4 => Ok(Instruction::Alu {
-            op: Alu::Sll,
-            src,
-            dst,
-        }),
-        0x90..=0x9F if low == 5 => Ok(Instruction::Alu {
-            op: Alu::Rol,
-            src,
-            dst,
-        }),
-        0x90..=0x9F if low == 6 => Ok(Instruction::Alu {
-            op: Alu::Srl,
-            src,
-            dst,
-        }),
-        0x90..=0x9F if low == 7 => Ok(Instruction::Alu {
-            op: Alu::Ror,
-            src,
-            dst,
-        }),
-        0x90..=0x9F if low == 10 => Ok(Instruction::Alu {
-            op: Alu::Not,
-            src,
-            dst,
-        }),
-        0x90..=0x9F if low == 11 => Ok(Instruction::Alu {
-            op: Alu::Xor,
-            src,
-            dst,
-        }),
-        0x90..=0x9F if low == 12 => Ok(Instruction::Alu {
-            op: Alu::Adc,
-            src,
-            dst,
-        }),
-        0x90..=0x9F if low == 13 => Ok(Instruction::Alu {
-            op: Alu::Sbc,
-            src,
-            dst,
-        }),
-        0x90..=0x9F if low == 14 => Ok(Instruction::Adi {
-            amount: src + 1,
-            dst,
-        }),
-        0x90..=0x9F => Ok(Instruction::Sbi {
-            amount: src + 1,
-            dst,
-        }),
-        0xA0..=0xAF => Ok(Instruction::Aluc {
-            code: low,
-            src,
-            dst,
-        }),
-        0xC0..=0xCF if low == 0 => Ok(Instruction::Mov { src, dst }),
-        0xC0..=0xCF if low == 1 && src < 8 => Ok(Instruction::Ldb { pair: src, dst }),
-        0xC0..=0xCF if low == 1 => Ok(Instruction::Lpb { pair: src - 8, dst }),
-        0xC0..=0xCF if low == 2 && dst < 8 => Ok(Instruction::Stb { src, pair: dst }),
-        0xC0..=0xCF if low == 2 => Ok(Instruction::Spb { src, pair: dst - 8 }),
-        0xC0..=0xCF if low == 6 => Ok(Instruction::Rie { pair: src % 8 }),
-        0xC0..=0xCF if low == 7 => Ok(Instruction::Sie { pair: src % 8 }),
-        0xC0..=0xCF => Ok(Instruction::Sys { byte: operand }),
+        0x00..=0x0F => Ok(Instruction::Mvs(address * 16)),
+        0x10..=0x1F => Ok(Instruction::Mvv(operand as u16 * 16, low)),
+        0x20..=0x2F => Ok(Instruction::Jmp(address)),
+        0x30..=0x3F => Ok(Instruction::Jsr(address)),
+        0x40..=0x4F => Ok(Instruction::Branch(Flag::Zero, address)),
+        0x50..=0x5F => Ok(Instruction::Branch(Flag::Negative, address)),
+        0x60..=0x6F => Ok(Instruction::Branch(Flag::Carry, address)),
+        0x70..=0x7F => Ok(Instruction::Branch(Flag::Overflow, address)),
+        0x80..=0x8F => Ok(Instruction::Mvi(operand, low)),
+        0x90..=0x9F if low == 0 => Ok(Instruction::Alu(Alu::Add, src, dst)),
+        0x90..=0x9F if low == 1 => Ok(Instruction::Alu(Alu::Sub, src, dst)),
+        0x90..=0x9F if low == 2 => Ok(Instruction::Alu(Alu::And, src, dst)),
+        0x90..=0x9F if low == 3 => Ok(Instruction::Alu(Alu::Lor, src, dst)),
+        0x90..=0x9F if low == 4 => Ok(Instruction::Alu(Alu::Sll, src, dst)),
+        0x90..=0x9F if low == 5 => Ok(Instruction::Alu(Alu::Rol, src, dst)),
+        0x90..=0x9F if low == 6 => Ok(Instruction::Alu(Alu::Srl, src, dst)),
+        0x90..=0x9F if low == 7 => Ok(Instruction::Alu(Alu::Ror, src, dst)),
+        0x90..=0x9F if low == 10 => Ok(Instruction::Alu(Alu::Not, src, dst)),
+        0x90..=0x9F if low == 11 => Ok(Instruction::Alu(Alu::Xor, src, dst)),
+        0x90..=0x9F if low == 12 => Ok(Instruction::Alu(Alu::Adc, src, dst)),
+        0x90..=0x9F if low == 13 => Ok(Instruction::Alu(Alu::Sbc, src, dst)),
+        0x90..=0x9F if low == 14 => Ok(Instruction::Adi(src + 1, dst)),
+        0x90..=0x9F => Ok(Instruction::Sbi(src + 1, dst)),
+        0xA0..=0xAF => Ok(Instruction::Aluc(low, src, dst)),
+        0xC0..=0xCF if low == 0 => Ok(Instruction::Mov(src, dst)),
+        0xC0..=0xCF if low == 1 && src < 8 => Ok(Instruction::Ldb(src, dst)),
+        0xC0..=0xCF if low == 1 => Ok(Instruction::Lpb(src - 8, dst)),
+        0xC0..=0xCF if low == 2 && dst < 8 => Ok(Instruction::Stb(src, dst)),
+        0xC0..=0xCF if low == 2 => Ok(Instruction::Spb(src, dst - 8)),
+        0xC0..=0xCF if low == 6 => Ok(Instruction::Rie(src % 8)),
+        0xC0..=0xCF if low == 7 => Ok(Instruction::Sie(src % 8)),
+        0xC0..=0xCF => Ok(Instruction::Sys(operand)),
     }
 }
 
@@ -273,7 +211,7 @@ impl Instruction {
             | Instruction::Lsr
             | Instruction::Hlt
             | Instruction::Rti => 1,
-            Instruction::Psh { .. } | Instruction::Pop { .. } => 1,
+            Instruction::Psh(..) | Instruction::Pop(..) => 1,
             _ => 2,
         }
     }
@@ -282,31 +220,27 @@ impl Instruction {
         ensures { λ r. ⌜ r ≡ fits self ⌝ }
     {
         match self {
-            Instruction::Mvs { top } => top % 16 == 0,
-            Instruction::Mvv { handler, vector } => handler % 16 == 0
-                && handler < 4096
-                && vector < 16,
-            Instruction::Jmp { target }
-            | Instruction::Jsr { target }
-            | Instruction::Branch { target, .. } => target < 4096,
-            Instruction::Mvi { dst, .. } => dst < 16,
-            Instruction::Alu { src, dst, .. } | Instruction::Mov { src, dst } => src < 16
-                && dst < 16,
-            Instruction::Adi { amount, dst } | Instruction::Sbi { amount, dst } => 1 <= amount
+            Instruction::Mvs(top) => top % 16 == 0,
+            Instruction::Mvv(handler, vector) => handler % 16 == 0 && handler < 4096 && vector < 16,
+            Instruction::Jmp(target) | Instruction::Jsr(target) | Instruction::Branch(_, target) =>
+                target < 4096,
+            Instruction::Mvi(_, dst) => dst < 16,
+            Instruction::Alu(_, src, dst) | Instruction::Mov(src, dst) => src < 16 && dst < 16,
+            Instruction::Adi(amount, dst) | Instruction::Sbi(amount, dst) => 1 <= amount
                 && amount <= 16
                 && dst < 16,
-            Instruction::Aluc { code, src, dst } => code < 16 && src < 16 && dst < 16,
-            Instruction::Ldb { pair, dst } | Instruction::Lpb { pair, dst } => pair < 8 && dst < 16,
-            Instruction::Stb { src, pair } | Instruction::Spb { src, pair } => src < 16 && pair < 8,
-            Instruction::Rie { pair } | Instruction::Sie { pair } => pair < 8,
-            Instruction::Psh { src } => src < 16,
-            Instruction::Pop { dst } => dst < 16,
+            Instruction::Aluc(code, src, dst) => code < 16 && src < 16 && dst < 16,
+            Instruction::Ldb(pair, dst) | Instruction::Lpb(pair, dst) => pair < 8 && dst < 16,
+            Instruction::Stb(src, pair) | Instruction::Spb(src, pair) => src < 16 && pair < 8,
+            Instruction::Rie(pair) | Instruction::Sie(pair) => pair < 8,
+            Instruction::Psh(src) => src < 16,
+            Instruction::Pop(dst) => dst < 16,
             Instruction::Ret
             | Instruction::Str
             | Instruction::Lsr
             | Instruction::Hlt
             | Instruction::Rti => true,
-            Instruction::Sys { .. } => true,
+            Instruction::Sys(..) => true,
         }
     }
 
@@ -315,31 +249,31 @@ impl Instruction {
         ensures { λ r. ⌜ r ≡ wordOf self ⌝ }
     {
         match self {
-            Instruction::Mvs { top } => with_address(0, top / 16),
-            Instruction::Mvv { handler, vector } => Word::Two(0x10 + vector, (handler / 16) as u8),
-            Instruction::Jmp { target } => with_address(2, target),
-            Instruction::Jsr { target } => with_address(3, target),
-            Instruction::Branch { flag, target } => with_address(flag.opcode(), target),
-            Instruction::Mvi { byte, dst } => Word::Two(0x80 + dst, byte),
-            Instruction::Alu { op, src, dst } => Word::Two(0x90 + op.opcode(), src * 16 + dst),
-            Instruction::Adi { amount, dst } => Word::Two(0x9E, (amount - 1) * 16 + dst),
-            Instruction::Sbi { amount, dst } => Word::Two(0x9F, (amount - 1) * 16 + dst),
-            Instruction::Aluc { code, src, dst } => Word::Two(0xA0 + code, src * 16 + dst),
-            Instruction::Mov { src, dst } => Word::Two(0xC0, src * 16 + dst),
-            Instruction::Ldb { pair, dst } => Word::Two(0xC1, pair * 16 + dst),
-            Instruction::Lpb { pair, dst } => Word::Two(0xC1, (pair + 8) * 16 + dst),
-            Instruction::Stb { src, pair } => Word::Two(0xC2, src * 16 + pair),
-            Instruction::Spb { src, pair } => Word::Two(0xC2, src * 16 + pair + 8),
+            Instruction::Mvs(top) => with_address(0, top / 16),
+            Instruction::Mvv(handler, vector) => Word::Two(0x10 + vector, (handler / 16) as u8),
+            Instruction::Jmp(target) => with_address(2, target),
+            Instruction::Jsr(target) => with_address(3, target),
+            Instruction::Branch(flag, target) => with_address(flag.opcode(), target),
+            Instruction::Mvi(byte, dst) => Word::Two(0x80 + dst, byte),
+            Instruction::Alu(op, src, dst) => Word::Two(0x90 + op.opcode(), src * 16 + dst),
+            Instruction::Adi(amount, dst) => Word::Two(0x9E, (amount - 1) * 16 + dst),
+            Instruction::Sbi(amount, dst) => Word::Two(0x9F, (amount - 1) * 16 + dst),
+            Instruction::Aluc(code, src, dst) => Word::Two(0xA0 + code, src * 16 + dst),
+            Instruction::Mov(src, dst) => Word::Two(0xC0, src * 16 + dst),
+            Instruction::Ldb(pair, dst) => Word::Two(0xC1, pair * 16 + dst),
+            Instruction::Lpb(pair, dst) => Word::Two(0xC1, (pair + 8) * 16 + dst),
+            Instruction::Stb(src, pair) => Word::Two(0xC2, src * 16 + pair),
+            Instruction::Spb(src, pair) => Word::Two(0xC2, src * 16 + pair + 8),
             Instruction::Ret => Word::One(0xC3),
             Instruction::Str => Word::One(0xC4),
             Instruction::Lsr => Word::One(0xC5),
-            Instruction::Rie { pair } => Word::Two(0xC6, pair * 16),
-            Instruction::Sie { pair } => Word::Two(0xC7, pair * 16),
+            Instruction::Rie(pair) => Word::Two(0xC6, pair * 16),
+            Instruction::Sie(pair) => Word::Two(0xC7, pair * 16),
             Instruction::Hlt => Word::One(0xC8),
             Instruction::Rti => Word::One(0xC9),
-            Instruction::Sys { byte } => Word::Two(0xCF, byte),
-            Instruction::Psh { src } => Word::One(0xD0 + src),
-            Instruction::Pop { dst } => Word::One(0xE0 + dst),
+            Instruction::Sys(byte) => Word::Two(0xCF, byte),
+            Instruction::Psh(src) => Word::One(0xD0 + src),
+            Instruction::Pop(dst) => Word::One(0xE0 + dst),
         }
     }
 }

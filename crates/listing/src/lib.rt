@@ -2,7 +2,6 @@
 pub mod faults;
 pub mod hex;
 pub mod lines;
-pub mod text;
-
 #[cfg(test)]
 mod tests;
+pub mod text;

@@ -66,10 +66,26 @@ fn faulty_as(rt: &LibcRuntime, text: &str, told: &str) -> Result<(), Fail> {
 fn hex_texts(rt: LibcRuntime) -> Result<(), Fail> {
     read_as(&rt, "", &[])?;
     read_as(&rt, "8041cfFF", &[0x80, 0x41, 0xCF, 0xFF])?;
-    read_as(&rt, " 8 0\t41\r\n# zz 12\n cf # ff\nFf", &[0x80, 0x41, 0xCF, 0xFF])?;
-    faulty_as(&rt, "80 4", "line 1, column 4: an odd number of digits, this one is left over")?;
-    faulty_as(&rt, "80\n# 4\n  4 1 x", "line 3, column 7: 'x' is no hex digit")?;
-    faulty_as(&rt, "80\u{7f}", "line 1, column 3: byte 0x7F is no hex digit")
+    read_as(
+        &rt,
+        " 8 0\t41\r\n# zz 12\n cf # ff\nFf",
+        &[0x80, 0x41, 0xCF, 0xFF],
+    )?;
+    faulty_as(
+        &rt,
+        "80 4",
+        "line 1, column 4: an odd number of digits, this one is left over",
+    )?;
+    faulty_as(
+        &rt,
+        "80\n# 4\n  4 1 x",
+        "line 3, column 7: 'x' is no hex digit",
+    )?;
+    faulty_as(
+        &rt,
+        "80\u{7f}",
+        "line 1, column 3: byte 0x7F is no hex digit",
+    )
 }
 
 #[test]

@@ -98,24 +98,24 @@ pub fn instruction_text(heap: Global, instruction: Instruction) -> Result<String
     ensures { λ r. ⌜ made r (λ t. string-bytes t ≡ instructionText instruction) ⌝ }
 {
     match instruction {
-        Instruction::Mvs { top } => {
+        Instruction::Mvs(top) => {
             let top = Hex {
                 width: Width::Four,
                 value: top,
             };
             format!(heap, "mvs {top}")
         }
-        Instruction::Mvv { handler, vector } => {
+        Instruction::Mvv(handler, vector) => {
             let handler = Hex {
                 width: Width::Three,
                 value: handler,
             };
             format!(heap, "mvv {handler}, iv{vector}")
         }
-        Instruction::Jmp { target } => address_text(heap, "jmp", target),
-        Instruction::Jsr { target } => address_text(heap, "jsr", target),
-        Instruction::Branch { flag, target } => address_text(heap, branch_name(flag), target),
-        Instruction::Mvi { byte, dst } => {
+        Instruction::Jmp(target) => address_text(heap, "jmp", target),
+        Instruction::Jsr(target) => address_text(heap, "jsr", target),
+        Instruction::Branch(flag, target) => address_text(heap, branch_name(flag), target),
+        Instruction::Mvi(byte, dst) => {
             let byte = Hex {
                 width: Width::Two,
                 value: byte as u16,
@@ -123,34 +123,34 @@ pub fn instruction_text(heap: Global, instruction: Instruction) -> Result<String
             let dst = Register(dst);
             format!(heap, "mvi {byte}, {dst}")
         }
-        Instruction::Alu { op, src, dst } => registers_text(heap, alu_name(op), src, dst),
-        Instruction::Adi { amount, dst } => number_text(heap, "adi", amount, dst),
-        Instruction::Sbi { amount, dst } => number_text(heap, "sbi", amount, dst),
-        Instruction::Aluc { code, src, dst } => unit_text(heap, code, src, dst),
-        Instruction::Mov { src, dst } => registers_text(heap, "mov", src, dst),
-        Instruction::Ldb { pair, dst } => number_text(heap, "ldb", pair, dst),
-        Instruction::Lpb { pair, dst } => number_text(heap, "lpb", pair, dst),
-        Instruction::Stb { src, pair } => store_text(heap, "stb", src, pair),
-        Instruction::Spb { src, pair } => store_text(heap, "spb", src, pair),
+        Instruction::Alu(op, src, dst) => registers_text(heap, alu_name(op), src, dst),
+        Instruction::Adi(amount, dst) => number_text(heap, "adi", amount, dst),
+        Instruction::Sbi(amount, dst) => number_text(heap, "sbi", amount, dst),
+        Instruction::Aluc(code, src, dst) => unit_text(heap, code, src, dst),
+        Instruction::Mov(src, dst) => registers_text(heap, "mov", src, dst),
+        Instruction::Ldb(pair, dst) => number_text(heap, "ldb", pair, dst),
+        Instruction::Lpb(pair, dst) => number_text(heap, "lpb", pair, dst),
+        Instruction::Stb(src, pair) => store_text(heap, "stb", src, pair),
+        Instruction::Spb(src, pair) => store_text(heap, "spb", src, pair),
         Instruction::Ret => String::from_str(heap, "ret"),
         Instruction::Str => String::from_str(heap, "str"),
         Instruction::Lsr => String::from_str(heap, "lsr"),
-        Instruction::Rie { pair } => format!(heap, "rie {pair}"),
-        Instruction::Sie { pair } => format!(heap, "sie {pair}"),
+        Instruction::Rie(pair) => format!(heap, "rie {pair}"),
+        Instruction::Sie(pair) => format!(heap, "sie {pair}"),
         Instruction::Hlt => String::from_str(heap, "hlt"),
         Instruction::Rti => String::from_str(heap, "rti"),
-        Instruction::Sys { byte } => {
+        Instruction::Sys(byte) => {
             let byte = Hex {
                 width: Width::Two,
                 value: byte as u16,
             };
             format!(heap, "sys {byte}")
         }
-        Instruction::Psh { src } => {
+        Instruction::Psh(src) => {
             let src = Register(src);
             format!(heap, "psh {src}")
         }
-        Instruction::Pop { dst } => {
+        Instruction::Pop(dst) => {
             let dst = Register(dst);
             format!(heap, "pop {dst}")
         }
