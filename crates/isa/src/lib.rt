@@ -34,7 +34,7 @@ pub enum Alu {
 
 // An instruction, its operands as a programmer writes them and in that order. Registers 0 to 7 are
 // r0 to r7 and 8 to 15 are a0 to a7; pair i is a_i and r_i.
-#[derive(Clone, Copy, Debug, PartialEq, Eq)]
+#[derive(Clone, Copy, PartialEq, Eq)]
 pub enum Instruction {
     // one above the new stack pointer
     Mvs(u16),

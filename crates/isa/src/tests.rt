@@ -8,7 +8,7 @@ fn pairs_with(word: Word, instruction: Instruction) -> Result<(), Fail> {
         Word::One(first) => decode(Some(first), None),
         Word::Two(first, second) => decode(Some(first), Some(second)),
     };
-    check_eq(read, Ok(instruction))?;
+    check(read == Ok(instruction))?;
     check_eq(encode(instruction), Ok(word))
 }
 
@@ -95,8 +95,8 @@ fn memory_stack_and_system() -> Result<(), Fail> {
         pairs_with(word, instruction)?;
     }
     // Bits 7 and 3 to 0 of rie and sie are not used.
-    check_eq(decode(Some(0xC6), Some(0x9F)), Ok(Instruction::Rie(1)))?;
-    check_eq(decode(Some(0xC7), Some(0xFF)), Ok(Instruction::Sie(7)))
+    check(decode(Some(0xC6), Some(0x9F)) == Ok(Instruction::Rie(1)))?;
+    check(decode(Some(0xC7), Some(0xFF)) == Ok(Instruction::Sie(7)))
 }
 
 #[test]
@@ -116,10 +116,10 @@ fn refusals() -> Result<(), Fail> {
         0xFF,
     ];
     for first in reserved {
-        check_eq(decode(Some(first), None), Err(Refusal::ReservedWord))?;
-        check_eq(decode(Some(first), Some(0)), Err(Refusal::ReservedWord))?;
+        check(decode(Some(first), None) == Err(Refusal::ReservedWord))?;
+        check(decode(Some(first), Some(0)) == Err(Refusal::ReservedWord))?;
     }
-    check_eq(decode(None, Some(0)), Err(Refusal::MissingByte))?;
+    check(decode(None, Some(0)) == Err(Refusal::MissingByte))?;
     let cut_off = [
         0x00,
         0x1F,
@@ -136,7 +136,7 @@ fn refusals() -> Result<(), Fail> {
         0xCF,
     ];
     for first in cut_off {
-        check_eq(decode(Some(first), None), Err(Refusal::MissingByte))?;
+        check(decode(Some(first), None) == Err(Refusal::MissingByte))?;
     }
     let outside = [
         Instruction::Mvs(0x0041),

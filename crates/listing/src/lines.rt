@@ -145,26 +145,18 @@ impl Counts {
         requires { ⌜ Below self (2 ^ 64 - 1) ⌝ }
         ensures { λ r. ⌜ r ≡ countedTo reading self ⌝ }
     {
-        let Counts {
-            instructions,
-            reserved,
-            cut_off,
-        } = self;
         match reading {
             Reading::Known(_) => Counts {
-                instructions: instructions + 1,
-                reserved,
-                cut_off,
+                instructions: self.instructions + 1,
+                ..self
             },
             Reading::Reserved => Counts {
-                instructions,
-                reserved: reserved + 1,
-                cut_off,
+                reserved: self.reserved + 1,
+                ..self
             },
             Reading::CutOff => Counts {
-                instructions,
-                reserved,
-                cut_off: cut_off + 1,
+                cut_off: self.cut_off + 1,
+                ..self
             },
         }
     }
