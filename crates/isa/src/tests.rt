@@ -1,4 +1,4 @@
-// Words and instructions, from the manual's examples.
+// Words and the instructions that they stand for.
 use super::*;
 use std::test::*;
 

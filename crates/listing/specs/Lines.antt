@@ -104,5 +104,8 @@ abbrev pub linesText : List Line → List ℕ
 linesText [] = []
 linesText (l ∷ ls) = lineText l ++ (10 ∷ linesText ls)
 
+abbrev pub countedText : ℕ → List Line → List ℕ
+countedText bytes ls = linesText ls ++ (summaryText bytes (countsOf ls) ++ (10 ∷ []))
+
 abbrev pub listingText : List ℕ → List ℕ
-listingText program = linesText (linesOf 0 program) ++ (summaryText (length program) (countsOf (linesOf 0 program)) ++ (10 ∷ []))
+listingText program = countedText (length program) (linesOf 0 program)

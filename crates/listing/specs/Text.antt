@@ -31,7 +31,7 @@ digitCount Four = 4
 abbrev pub registerText : ℕ → List ℕ
 registerText n = cond (ltb n 8) (codes "r" ++ decimal n) (codes "a" ++ decimal (n - 8))
 
--- words and their parts, as the manual sets them
+-- a name and its operands
 abbrev pub spaced : List ℕ → List ℕ → List ℕ
 spaced x y = x ++ (codes " " ++ y)
 

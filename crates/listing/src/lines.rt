@@ -4,7 +4,7 @@ ghost use Prim.Native.Nat.{_-_, _^_};
 ghost use Rattle.std.specs.Of.String.{string-bytes};
 ghost use Rattle.std.specs.Of.Vec.{vec-items};
 ghost use Rattle.std.specs.Vec.{made};
-ghost use Rattle.listing.specs.Lines.{byteAt, Below, countedTo, lineOf, sizeOf, linesOf, bytesOf, lineText, wordText, readingText, countsOf, summaryText, linesText, listingText};
+ghost use Rattle.listing.specs.Lines.{byteAt, Below, countedTo, lineOf, sizeOf, linesOf, bytesOf, lineText, wordText, readingText, countsOf, summaryText, linesText, countedText, listingText};
 use super::hex::write_hex;
 use super::text::Hex;
 use super::text::HexDisplay;
@@ -203,12 +203,26 @@ fn lines_text(heap: Global, lines: &[Line]) -> Result<String, AllocError>
     Ok(text)
 }
 
-// A program's listing: its lines, then what they count to.
+// What lines count to.
+fn counts_text(heap: Global, bytes: usize, lines: &[Line]) -> Result<String, AllocError>
+    ensures { λ r. ⌜ made r (λ t. string-bytes t ≡ summaryText bytes (countsOf (now (lines .entry)))) ⌝ }
+{
+    summary_text(heap, bytes, count(lines))
+}
+
+// Lines, then what they count to.
+fn counted_text(heap: Global, bytes: usize, lines: &[Line]) -> Result<String, AllocError>
+    ensures { λ r. ⌜ made r (λ t. string-bytes t ≡ countedText bytes (now (lines .entry))) ⌝ }
+{
+    let text = lines_text(heap, lines)?;
+    let summary = counts_text(heap, bytes, lines)?;
+    format!(heap, "{text}{summary}\n")
+}
+
+// A program's listing.
 pub fn listing_text(heap: Global, program: &[u8]) -> Result<String, AllocError>
     ensures { λ r. ⌜ made r (λ t. string-bytes t ≡ listingText (now (program .entry))) ⌝ }
 {
     let listed = lines(heap, program)?;
-    let text = lines_text(heap, listed.as_slice())?;
-    let summary = summary_text(heap, program.len(), count(listed.as_slice()))?;
-    format!(heap, "{text}{summary}\n")
+    counted_text(heap, program.len(), listed.as_slice())
 }

@@ -1,4 +1,4 @@
-// Texts of the manual's examples, and of programs with faults.
+// Texts of single instructions, and of programs with faults.
 use super::faults::fault_text;
 use super::hex::*;
 use super::lines::listing_text;
@@ -7,7 +7,7 @@ use isa::decode;
 use std::test::*;
 
 #[test]
-fn examples_in_the_manuals_syntax(rt: LibcRuntime) -> Result<(), Fail> {
+fn instructions_in_assembler_syntax(rt: LibcRuntime) -> Result<(), Fail> {
     let table = [
         (0x00, 0x04, "mvs 0x0040"),
         (0x14, 0xFF, "mvv 0xFF0, iv4"),

@@ -1,4 +1,4 @@
-// Instructions in the manual's syntax.
+// Instructions in assembler syntax.
 ghost use mathlib.Core.Path.{_≡_};
 ghost use Rattle.std.specs.declared.option.Option.the-variants.{Some};
 ghost use Rattle.std.specs.Of.String.{string-bytes};
@@ -93,7 +93,7 @@ fn branch_name(flag: Flag) -> &'static str
     }
 }
 
-// An instruction in the manual's syntax.
+// An instruction in assembler syntax.
 pub fn instruction_text(heap: Global, instruction: Instruction) -> Result<String, AllocError>
     ensures { λ r. ⌜ made r (λ t. string-bytes t ≡ instructionText instruction) ⌝ }
 {

@@ -1,0 +1,16 @@
+-- What the making of a store answers. Assumes nothing.
+use mathlib.Core.Path.{_≡_}
+use mathlib.Core.Bool.{true, false}
+use mathlib.Core.List.{List}
+use Prim.Native.Nat.{ℕ}
+use Rattle.std.specs.declared.result.Result.{Result}
+use Rattle.std.specs.declared.result.Result.the-variants.{Ok, Err}
+use Rattle.buses.specs.declared.bus.Refusal.{Refusal}
+use Rattle.buses.specs.declared.store.Store.{Store}
+use Rattle.buses.specs.Memories.{fit}
+use Rattle.buses.specs.Numbers.{number}
+
+-- a store has the memories that it was given; memories that do not fit are refused 9
+abbrev pub StoreOver : List ℕ → List ℕ → Result Store Refusal → Type 0
+StoreOver bytes marks (Ok s) = (fit bytes marks ≡ true) × (s .bytes .now ≡ bytes) × (s .marks .now ≡ marks)
+StoreOver bytes marks (Err e) = (fit bytes marks ≡ false) × (number e ≡ 9)

@@ -1,0 +1,97 @@
+// A bus over two memories of the caller's.
+ghost use mathlib.Core.Bool.{cond};
+ghost use mathlib.Core.Path.{_≡_};
+ghost use lib.ListN.{set};
+ghost use denote.Ref.{now};
+ghost use Rattle.std.specs.declared.option.Option.the-variants.{None, Some};
+ghost use Rattle.buses.specs.Memories.{markOf, markByte, inside, storeCells};
+ghost use Rattle.buses.specs.Stores.{StoreOver};
+use super::bus::Bus;
+use super::bus::Kind;
+use super::bus::Refusal;
+use marks::Mark;
+use marks::Marked;
+
+// Cell i has byte i of the one memory and mark i of the other.
+#[derive(Drop)]
+pub struct Store<'a> {
+    bytes: &'a mut [u8],
+    marks: &'a mut [u8],
+}
+
+fn mark_of(byte: u8) -> Mark
+    ensures { λ r. ⌜ r ≡ markOf byte ⌝ }
+{
+    if byte == 0 { Mark::Unheld } else { Mark::Held }
+}
+
+fn mark_byte(mark: Mark) -> u8
+    ensures { λ r. ⌜ r ≡ markByte mark ⌝ }
+{
+    match mark {
+        Mark::Unheld => 0,
+        Mark::Held => 1,
+    }
+}
+
+impl<'a> Store<'a> {
+    // A store over memories of one length, up to 65,536.
+    pub fn new(bytes: &'a mut [u8], marks: &'a mut [u8]) -> Result<Store<'a>, Refusal>
+        ensures { λ r. ⌜ StoreOver (now (bytes .entry)) (now (marks .entry)) r ⌝ }
+    {
+        if bytes.len() != marks.len() || bytes.len() > 65536 {
+            return Err(Refusal::UnfitMemories);
+        }
+        Ok(Store { bytes, marks })
+    }
+
+    // The index of a cell in both memories, if it is there.
+    fn index(&self, address: u16) -> Option<usize>
+        ensures { λ r. ⌜ r ≡ cond (inside (now (now (self .entry) .bytes)) (now (now (self .entry) .marks)) address) (Some address) None ⌝ }
+    {
+        let at = address as usize;
+        if at < self.bytes.len() && at < self.marks.len() {
+            Some(at)
+        } else {
+            None
+        }
+    }
+}
+
+pub impl<'a> Bus for Store<'a> as StoreBus {
+    ghost cells = { λ s. storeCells (now (s .bytes)) (now (s .marks)) };
+
+    fn kind(&self, address: u16) -> Kind {
+        match self.index(address) {
+            Some(_) => Kind::Plain,
+            None => Kind::Absent,
+        }
+    }
+
+    fn read(&self, address: u16) -> Result<Marked, Refusal> {
+        let Some(at) = self.index(address) else {
+            return Err(Refusal::AbsentCell);
+        };
+        Ok(Marked {
+            byte: self.bytes[at],
+            mark: mark_of(self.marks[at]),
+        })
+    }
+
+    fn write(&mut self, address: u16, value: Marked) -> Result<(), Refusal> {
+        let Some(at) = self.index(address) else {
+            return Err(Refusal::AbsentCell);
+        };
+        self.bytes[at] = value.byte;
+        self.marks[at] = mark_byte(value.mark);
+        Ok(())
+    }
+
+    fn lift(&mut self, address: u16) -> Result<(), Refusal> {
+        let Some(at) = self.index(address) else {
+            return Err(Refusal::AbsentCell);
+        };
+        self.marks[at] = 0;
+        Ok(())
+    }
+}
