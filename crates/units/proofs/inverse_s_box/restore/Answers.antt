@@ -1,0 +1,13 @@
+use mathlib.Core.Path.{_≡_, ap, _∙_}
+use Rattle.units.specs.Field.{inverse}
+use Rattle.units.specs.Sbox.{affine, substituted, restored}
+use Rattle.units.proofs.Boxes.{substituted-restored}
+use Rattle.units.proofs.Entries.{entry}
+use Rattle.units.proofs.inverse_s_box.restore.Needs as need
+
+pub returns : need.returns
+unfolding restored substituted affine inverse
+returns c =
+    let b = c .args .b in
+    let is = entry restored 256 b (c .fits .b .fits) in
+    record { entry = is; undone = ap substituted is ∙ substituted-restored b (c .fits .b .fits) }

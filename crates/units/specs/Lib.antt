@@ -1,0 +1,9 @@
+pub mod Aes
+pub mod Cham
+pub mod Columns
+pub mod Field
+pub mod Laws
+pub mod Meaning
+pub mod Numbers
+pub mod Plans
+pub mod Sbox
