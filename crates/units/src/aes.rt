@@ -108,9 +108,7 @@ impl Column {
             }
         }
     }
-}
 
-impl Column {
     // Zeros, unheld, and no call made.
     fn fresh() -> Column
         ensures { λ r. ⌜ columnContents r ≡ fresh 1 4 ⌝ }
