@@ -2,3 +2,5 @@
 pub mod board;
 pub mod bus;
 pub mod store;
+#[cfg(test)]
+mod tests;

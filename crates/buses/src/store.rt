@@ -4,8 +4,11 @@ ghost use mathlib.Core.Path.{_≡_};
 ghost use lib.ListN.{set};
 ghost use denote.Ref.{now};
 ghost use Rattle.std.specs.declared.option.Option.the-variants.{None, Some};
-ghost use Rattle.buses.specs.Memories.{markOf, markByte, inside, storeCells};
-ghost use Rattle.buses.specs.Stores.{StoreOver};
+ghost use Rattle.buses.specs.Memories.{markOf, markByte, inside};
+ghost use Rattle.buses.specs.Cells.{settled, told, writeCell};
+ghost use Rattle.buses.specs.Laws.{WriteLaws};
+ghost use Rattle.buses.specs.Numbers.{numbered};
+ghost use Rattle.buses.specs.Stores.{StoreOver, holds, storeOf};
 use super::bus::Bus;
 use super::bus::Kind;
 use super::bus::Refusal;
@@ -59,7 +62,7 @@ impl<'a> Store<'a> {
 }
 
 pub impl<'a> Bus for Store<'a> as StoreBus {
-    ghost cells = { λ s. storeCells (now (s .bytes)) (now (s .marks)) };
+    ghost cells = { storeOf };
 
     fn kind(&self, address: u16) -> Kind {
         match self.index(address) {
@@ -78,7 +81,14 @@ pub impl<'a> Bus for Store<'a> as StoreBus {
         })
     }
 
-    fn write(&mut self, address: u16, value: Marked) -> Result<(), Refusal> {
+    // The memories have the byte, and its mark as 0 or 1.
+    fn write(&mut self, address: u16, value: Marked) -> Result<(), Refusal>
+        ensures told { λ r. ⌜ numbered r ≡ told (writeCell (storeOf (now (self .entry)) address) value) ⌝ }
+        ensures cells { λ _. ⌜ storeOf (now (self .exit)) ≡ settled (storeOf (now (self .entry))) address (writeCell (storeOf (now (self .entry)) address) value) ⌝ }
+        ensures laws { λ _. ⌜ WriteLaws ⌝ }
+        ensures bytes { λ _. ⌜ now (now (self .exit) .bytes) ≡ cond (holds (now (self .entry)) address) (set (now (now (self .entry) .bytes)) address (value .byte)) (now (now (self .entry) .bytes)) ⌝ }
+        ensures marks { λ _. ⌜ now (now (self .exit) .marks) ≡ cond (holds (now (self .entry)) address) (set (now (now (self .entry) .marks)) address (markByte (value .mark))) (now (now (self .entry) .marks)) ⌝ }
+    {
         let Some(at) = self.index(address) else {
             return Err(Refusal::AbsentCell);
         };

@@ -19,5 +19,7 @@ returns c =
     record {
       told = search needs;
       laws = write-laws;
+      bytes = search needs;
+      marks = search needs;
       cells = (λ i. storeCells (set bytes (same i) (value .byte)) (set marks (same i) (c .mark-byte .ensures i))) ∙ written bytes marks a (value .byte) (value .mark) h k ∙ takes bytes marks a value h k;
     }
