@@ -48,8 +48,12 @@ fn unfit_memories(rt: LibcRuntime) -> Result<(), Fail> {
     let mut bytes = vec![in rt.alloc(); 0u8; 65537]?;
     let mut marks = vec![in rt.alloc(); 0u8; 65537]?;
     is_unfit(bytes.as_mut_slice(), marks.as_mut_slice())?;
-    is_unfit(&mut [0; 2], &mut [0; 3])?;
-    is_unfit(&mut [0; 3], &mut [0; 2])
+    is_unfit(&mut [0; 3], &mut [0; 2])?;
+    let mut two = [5, 6];
+    let mut three = [7, 7, 7];
+    is_unfit(&mut two, &mut three)?;
+    check_eq(two, [5, 6])?;
+    check_eq(three, [7, 7, 7])
 }
 
 #[test]
@@ -120,7 +124,8 @@ fn board_at(rt: &LibcRuntime, page: u8) -> Result<(), Fail> {
     is_beside(&mut bus, last + 1)?;
     is_cell(&bus, first, Kind::Board, Marked::unheld(1))?;
     is_cell(&bus, last, Kind::Board, Marked::unheld(1))?;
-    check_eq(bytes.as_slice().get(first as usize), Some(&9))
+    check_eq(bytes.as_slice().get(first as usize), Some(&9))?;
+    check_eq(marks.as_slice().get(first as usize), Some(&1))
 }
 
 #[test]
