@@ -1,3 +1,5 @@
 pub mod Boxes
 pub mod Entries
+pub mod Linear
+pub mod Mixing
 pub mod Planned

@@ -7,3 +7,4 @@ pub mod Meaning
 pub mod Numbers
 pub mod Plans
 pub mod Sbox
+pub mod Undone

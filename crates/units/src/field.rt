@@ -1,5 +1,6 @@
 // Arithmetic in the field of AES.
 ghost use mathlib.Core.Path.{_≡_};
+ghost use Rattle.units.specs.Undone.{MixingUndone};
 ghost use Rattle.units.specs.Field.{byLowestBit, doubled, product};
 ghost use Rattle.units.specs.Columns.{mixRow, unmixRow};
 
@@ -39,9 +40,10 @@ pub fn mix_row(a: u8, b: u8, c: u8, d: u8) -> u8
     times(2, a) ^ times(3, b) ^ c ^ d
 }
 
-// One byte of a column that is mixed back.
+// One byte of a column that is mixed back, which undoes the mixing of every column.
 pub fn unmix_row(a: u8, b: u8, c: u8, d: u8) -> u8
-    ensures { λ r. ⌜ r ≡ unmixRow a b c d ⌝ }
+    ensures row { λ r. ⌜ r ≡ unmixRow a b c d ⌝ }
+    ensures undone { λ _. ⌜ MixingUndone ⌝ }
 {
     times(14, a) ^ times(11, b) ^ times(13, c) ^ times(9, d)
 }
