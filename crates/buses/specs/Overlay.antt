@@ -4,7 +4,7 @@ use mathlib.Core.List.{List}
 use Prim.Native.Nat.{ℕ, _+_, _-_, _*_}
 use lib.Dec.{leb, ltb}
 use lib.ListN.{getD}
-use Rattle.buses.specs.Cells.{Cells, board}
+use Rattle.buses.specs.Cells.{Cells, absent, board}
 
 -- the 64 cells from page × 256 on
 abbrev pub onBoard : ℕ → ℕ → Bool
@@ -13,3 +13,7 @@ onBoard page a = leb (page * 256) a && ltb a (page * 256 + 64)
 -- the board's own cells hide those beneath
 abbrev pub overlaid : ℕ → List ℕ → Cells → Cells
 overlaid page own below = λ a. cond (onBoard page a) (board (getD own (a - page * 256) 0)) (below a)
+
+-- those beneath that it hides
+abbrev pub covered : ℕ → Cells → Cells
+covered page below = λ a. cond (onBoard page a) (below a) absent

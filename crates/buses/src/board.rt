@@ -1,10 +1,11 @@
 // An odds board of 64 cells over any other bus.
 ghost use mathlib.Core.Bool.{cond};
+ghost use mathlib.Core.List.{_∷_};
 ghost use mathlib.Core.Path.{_≡_};
 ghost use Prim.Native.Nat.{_-_, _*_};
 ghost use lib.ListN.{replicate};
 ghost use Rattle.std.specs.declared.option.Option.the-variants.{None, Some};
-ghost use Rattle.buses.specs.Overlay.{onBoard, overlaid};
+ghost use Rattle.buses.specs.Overlay.{onBoard, overlaid, covered};
 use super::bus::Bus;
 use super::bus::Kind;
 use super::bus::Refusal;
@@ -48,6 +49,8 @@ impl<B> OddsBoard<B> {
 
 pub impl<B: Bus> Bus for OddsBoard<B> as OddsBoardBus {
     ghost cells = { λ s. overlaid (s .page) (s .own) (B·Bus .cells (s .below)) };
+
+    ghost hidden = { λ s. covered (s .page) (B·Bus .cells (s .below)) ∷ B·Bus .hidden (s .below) };
 
     fn kind(&self, address: u16) -> Kind {
         match self.index(address) {

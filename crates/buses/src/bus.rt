@@ -1,4 +1,5 @@
 // What every bus does.
+ghost use mathlib.Core.List.{List};
 ghost use mathlib.Core.Path.{_≡_};
 ghost use Rattle.buses.specs.Cells.{Cells, kindOf, readCell, writeCell, liftCell, told, settled};
 ghost use Rattle.buses.specs.Laws.{WriteLaws, LiftLaws};
@@ -21,9 +22,11 @@ pub enum Refusal {
     HeldToBoard,
 }
 
-// A bus, by its cells.
+// A bus, by its cells and by the cells that its layers hide, which only the layers beneath can reach.
 pub trait Bus {
     ghost cells: { Self → Cells };
+
+    ghost hidden: { Self → List Cells };
 
     fn kind(&self, address: u16) -> Kind
         ensures { λ r. ⌜ r ≡ kindOf (cells (now (self .entry)) address) ⌝ };
@@ -35,11 +38,13 @@ pub trait Bus {
     fn write(&mut self, address: u16, value: Marked) -> Result<(), Refusal>
         ensures told { λ r. ⌜ numbered r ≡ told (writeCell (cells (now (self .entry)) address) value) ⌝ }
         ensures cells { λ _. ⌜ cells (now (self .exit)) ≡ settled (cells (now (self .entry))) address (writeCell (cells (now (self .entry)) address) value) ⌝ }
+        ensures hidden { λ _. ⌜ hidden (now (self .exit)) ≡ hidden (now (self .entry)) ⌝ }
         ensures laws { λ _. ⌜ WriteLaws ⌝ };
 
     // Makes the byte of a plain cell unheld.
     fn lift(&mut self, address: u16) -> Result<(), Refusal>
         ensures told { λ r. ⌜ numbered r ≡ told (liftCell (cells (now (self .entry)) address)) ⌝ }
         ensures cells { λ _. ⌜ cells (now (self .exit)) ≡ settled (cells (now (self .entry))) address (liftCell (cells (now (self .entry)) address)) ⌝ }
+        ensures hidden { λ _. ⌜ hidden (now (self .exit)) ≡ hidden (now (self .entry)) ⌝ }
         ensures laws { λ _. ⌜ LiftLaws ⌝ };
 }

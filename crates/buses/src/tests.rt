@@ -10,6 +10,7 @@ use super::bus::RefusalDebug;
 use super::bus::RefusalPartialEq;
 use super::store::Store;
 use super::store::StoreBus;
+use super::store::UnfitDebug;
 use marks::Mark;
 use marks::Marked;
 use marks::MarkedDebug;
@@ -40,7 +41,10 @@ fn is_absent<B: Bus>(bus: &mut B, address: u16) -> Result<(), Fail> {
 }
 
 fn is_unfit(bytes: &mut [u8], marks: &mut [u8]) -> Result<(), Fail> {
-    check(matches!(Store::new(bytes, marks), Err(Refusal::UnfitMemories)))
+    match Store::new(bytes, marks) {
+        Ok(_) => Err(Fail::new("made")),
+        Err(unfit) => check_eq(unfit.refusal, Refusal::UnfitMemories),
+    }
 }
 
 #[test]

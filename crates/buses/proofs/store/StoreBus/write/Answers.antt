@@ -1,4 +1,4 @@
-use mathlib.Core.Path.{_≡_, ap, _∙_}
+use mathlib.Core.Path.{_≡_, refl, ap, _∙_}
 use Prim.Native.Nat.{_<_}
 use borrow.Author.Needs.{needs}
 use lib.ListN.{length, set}
@@ -18,6 +18,7 @@ returns c =
     let same : c .in-Some .at ≡ a = search needs in
     record {
       told = search needs;
+      hidden = refl;
       laws = write-laws;
       bytes = search needs;
       marks = search needs;
