@@ -1,6 +1,7 @@
 -- The field of AES: bytes as polynomials over two elements, modulo x^8 + x^4 + x^3 + x + 1. Assumes nothing.
+use mathlib.Core.Path.{_≡_}
 use mathlib.Core.Bool.{cond}
-use Prim.Native.Nat.{ℕ, zero, suc, _*_, _/_, _%_}
+use Prim.Native.Nat.{ℕ, zero, suc, _*_, _/_, _%_, _<_}
 use lib.Bits.{bitXor}
 use lib.Dec.{eqb, ltb}
 
@@ -31,3 +32,7 @@ raisedTo (suc k) b p = raisedTo k b (squared (productOf 8 p b))
 -- the inverse is the power 254, since every power 255 is 1; 0 goes to 0
 unfoldable pub inverse : ℕ → ℕ
 inverse b = raisedTo 7 b 1
+
+-- and so it is: every byte but 0 times its inverse is 1
+abbrev pub InverseLaw : Type 0
+InverseLaw = (b : ℕ) → 0 < b → b < 256 → product b (inverse b) ≡ 1

@@ -1,5 +1,6 @@
 // The S-box of AES.
 ghost use mathlib.Core.Path.{_≡_};
+ghost use Rattle.units.specs.Field.{InverseLaw};
 ghost use Rattle.units.specs.Sbox.{substituted, restored};
 
 const SBOX: [u8; 256] = [
@@ -265,6 +266,7 @@ const SBOX: [u8; 256] = [
 pub fn substitute(b: u8) -> u8
     ensures entry { λ r. ⌜ r ≡ substituted b ⌝ }
     ensures undone { λ r. ⌜ restored r ≡ b ⌝ }
+    ensures inverses { λ _. ⌜ InverseLaw ⌝ }
 {
     SBOX[b as usize]
 }
