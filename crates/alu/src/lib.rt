@@ -1,4 +1,6 @@
 // The arithmetic of the core on plain bytes.
+#![tactic(auto)]
+
 ghost use Rattle.std.specs.Prelude.{◌≡◌, ◌-◌, false, bit_and, bit_or, bit_xor};
 ghost use Rattle.alu.specs.Sums.{nibble, sum, difference, raised, lowered};
 ghost use Rattle.alu.specs.Shifts.{shifted_left, shifted_right, turned_left, turned_right};

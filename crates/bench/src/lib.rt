@@ -1,4 +1,6 @@
 // Worked values, proved together of the definitions that all contracts cite.
+#![tactic(auto)]
+
 ghost use Rattle.bench.specs.Machines.{MachineValues};
 ghost use Rattle.bench.specs.Values.{BenchValues};
 

@@ -1,4 +1,6 @@
 // Runs whole ciphers as programs of the core, and prints each with its outcome.
+#![tactic(auto)]
+
 mod ciphers;
 mod failure;
 mod tally;

@@ -1,4 +1,6 @@
 // The HOKSTER core over any bus and any unit: its instructions, one step, and a run.
+#![tactic(auto)]
+
 mod control;
 mod extension;
 pub mod faults;

@@ -1,4 +1,6 @@
 // hokster list FILE: lists the instructions of a program. hokster play FILE: plays a script of calls.
+#![tactic(auto)]
+
 mod failure;
 mod names;
 mod play;

@@ -1,4 +1,6 @@
 // Instruction words of the HOKSTER core: what a word says, and how it is written.
+#![tactic(auto)]
+
 ghost use Rattle.std.specs.Prelude.{◌≡◌, ◌<◌, true};
 ghost use Rattle.isa.specs.Laws.{ReadsBack, WritesBack};
 ghost use Rattle.isa.specs.Numbers.{numbered};

@@ -1,4 +1,6 @@
 // Marked bytes: a byte of an open interval is held until the interval's close, and so is all that is worked out from it.
+#![tactic(auto)]
+
 ghost use Rattle.std.specs.Prelude.{◌≡◌};
 ghost use Rattle.marks.specs.Marks.{held, join, unheld, lifted, JoinLaws};
 

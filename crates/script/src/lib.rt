@@ -1,4 +1,6 @@
 // Call scripts: lines of text read as settings and calls, and answers written as text.
+#![tactic(auto)]
+
 pub mod answers;
 mod bytes;
 mod causes;

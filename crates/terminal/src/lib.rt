@@ -1,4 +1,6 @@
 // A betting terminal: a machine, the intervals of its hall, and the eleven calls.
+#![tactic(auto)]
+
 ghost use Rattle.std.specs.Prelude.{◌≡◌, map, is_ok, IfOk, if◌then◌else◌};
 ghost use Rattle.std.specs.Vec as vectors;
 ghost use Rattle.cpu.specs.Instructions.{served};

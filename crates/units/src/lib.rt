@@ -1,4 +1,6 @@
 // Extension units: operations that a core is fitted with.
+#![tactic(auto)]
+
 pub mod aes;
 pub mod cham;
 pub mod field;

@@ -1,4 +1,6 @@
 // Runs published values through the units, and prints each with its outcome.
+#![tactic(auto)]
+
 use marks::Marked;
 use std::io;
 use units::aes::Aes;
