@@ -29,7 +29,7 @@ returns-in-224-to-239 c = record { told = row c.args.second 14 (c.in-Some.first 
 
 pub returns-in-192-to-207-7 : goal.returns-in-192-to-207-7
 returns-in-192-to-207-7 c =
-    record { told = ap mov c.unwrap-or-operand.ensures ∙ given c.args.second c.if-is-none.ensures ∙ row c.args.second 12 0 c.in-Some.is (omega arith) (omega arith); written_back = search rules } where
+    record { told = ap mov c.unwrap_or-operand.ensures ∙ given c.args.second c.if-is_none.ensures ∙ row c.args.second 12 0 c.in-Some.is (omega arith) (omega arith); written_back = search rules } where
       mov : ℕ → Result Instruction ℕ
       mov b = Ok (Mov (b / 16) (b % 16))
 

@@ -3,5 +3,5 @@ use Rattle.isa.proofs.RoundTrip.{back}
 use Rattle.isa.specs.Laws.{reread}
 use Rattle.isa.proofs.encode.Goals as goal
 
-pub returns-then-operands-fit : goal.returns-then-operands-fit
-returns-then-operands-fit c = record { told = search rules; read_back = ap reread c.word.ensures ∙ back c.args.instruction (search rules) }
+pub returns-then-operands_fit : goal.returns-then-operands_fit
+returns-then-operands_fit c = record { told = search rules; read_back = ap reread c.word.ensures ∙ back c.args.instruction (search rules) }

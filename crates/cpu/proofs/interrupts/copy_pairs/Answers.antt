@@ -11,6 +11,6 @@ loop-pair-preserved c =
     let source = c.args.source.now in
     let low : c.at.result ≡ get_or source n (unheld 0) = c.at.ensures ∙ ap (get_or source n) c.unheld.ensures in
     let high : c.at-in-loop-pair.result ≡ get_or source (n + 8) (unheld 0) = c.at-in-loop-pair.ensures ∙ ap (get_or source (n + 8)) c.unheld-in-loop-pair.ensures in
-    let before : c.put-at.new.places ≡ set (pairs_copied n source c.args.target.now) n (get_or source n (unheld 0)) = c.put-at.ensures ∙ (λ i. set (c.loop-pair.invariant.0 i) n (low i)) in
+    let before : c.put_at.new.places ≡ set (pairs_copied n source c.args.target.now) n (get_or source n (unheld 0)) = c.put_at.ensures ∙ (λ i. set (c.loop-pair.invariant.0 i) n (low i)) in
     let next : suc n ≡ n + 1 = omega arith in
-    (c.put-at-in-loop-pair.ensures ∙ (λ i. set (before i) (n + 8) (high i)) ∙ ap (λ (k : ℕ). pairs_copied k source c.args.target.now) next, refl, refl, omega arith)
+    (c.put_at-in-loop-pair.ensures ∙ (λ i. set (before i) (n + 8) (high i)) ∙ ap (λ (k : ℕ). pairs_copied k source c.args.target.now) next, refl, refl, omega arith)

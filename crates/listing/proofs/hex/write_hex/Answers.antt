@@ -9,9 +9,9 @@ pub loop-b-preserved : goal.loop-b-preserved
 loop-b-preserved c =
     byte_more c.args.bytes.now c.loop-b.b-index
     (string_bytes c.loop-b.text) (string_bytes c.push.new.self) (string_bytes c.push-in-loop-b.new.self)
-    c.hex-digit.result c.hex-digit-in-loop-b.result
+    c.hex_digit.result c.hex_digit-in-loop-b.result
     (omega arith) (omega (arith, c.type-inv.bytes c.loop-b.b-index))
-    c.loop-b.invariant c.hex-digit.ensures c.hex-digit-in-loop-b.ensures
+    c.loop-b.invariant c.hex_digit.ensures c.hex_digit-in-loop-b.ensures
     c.in-ok-push.ensures.bytes c.in-ok-push-2.ensures.bytes
 
 pub returns : goal.returns

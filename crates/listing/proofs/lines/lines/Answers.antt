@@ -6,7 +6,7 @@ use Rattle.listing.proofs.lines.lines.Goals as goal
 
 pub loop-at-preserved : goal.loop-at-preserved
 loop-at-preserved c =
-    let is = c.line-at-line.ensures ∙ ap (line_of c.loop-at.at _) c.byte-at.ensures in
+    let is = c.line_at-line.ensures ∙ ap (line_of c.loop-at.at _) c.byte_at.ensures in
     let old = vec_items c.loop-at.lines in
     let new = vec_items c.push.new.self in
     let pushed = c.in-ok-push.ensures.items in (

@@ -8,8 +8,8 @@ pub loop-b-preserved : goal.loop-b-preserved
 loop-b-preserved c =
     hex_more c.args.bytes.now c.loop-b.b-index
     (vec_items c.args.text.now) (vec_items c.loop-b.text) (vec_items c.push.new.self) (vec_items c.push-in-loop-b.new.self)
-    c.hex-digit.result c.hex-digit-in-loop-b.result
-    (omega arith) c.loop-b.invariant c.hex-digit.ensures c.hex-digit-in-loop-b.ensures
+    c.hex_digit.result c.hex_digit-in-loop-b.result
+    (omega arith) c.loop-b.invariant c.hex_digit.ensures c.hex_digit-in-loop-b.ensures
     c.in-ok-push.ensures.items c.in-ok-push-2.ensures.items
 
 pub returns : goal.returns

@@ -9,11 +9,11 @@ returns c =
     let first = u16_text c.args.first in
     let count = u16_text c.args.count in
     let old = vec_items c.args.text.now in
-    let named = vec_items c.push-word.new.text in
-    let sealed = vec_items c.push-word-2.new.text in
-    let begun = vec_items c.push-u16.new.text in
-    let new = vec_items c.push-u16-2.new.text in
-    let told = pushed_as named c.as-bytes.result.now seal sealed (c.as-bytes.ensures.value ∙ c.seal-text.ensures) c.in-ok-push-word-2.ensures in
-    push_then old c.args.name.now (seal ∷ (first ∷ (count ∷ []))) {mid = named} {new = new} c.in-ok-push-word.ensures
+    let named = vec_items c.push_word.new.text in
+    let sealed = vec_items c.push_word-2.new.text in
+    let begun = vec_items c.push_u16.new.text in
+    let new = vec_items c.push_u16-2.new.text in
+    let told = pushed_as named c.as_bytes.result.now seal sealed (c.as_bytes.ensures.value ∙ c.seal_text.ensures) c.in-ok-push_word-2.ensures in
+    push_then old c.args.name.now (seal ∷ (first ∷ (count ∷ []))) {mid = named} {new = new} c.in-ok-push_word.ensures
     (push_then named seal (first ∷ (count ∷ [])) {mid = sealed} {new = new} told
-    (push_then sealed first (count ∷ []) {mid = begun} {new = new} c.in-ok-push-u16.ensures (push_last begun count {new = new} c.in-ok-push-u16-2.ensures)))
+    (push_then sealed first (count ∷ []) {mid = begun} {new = new} c.in-ok-push_u16.ensures (push_last begun count {new = new} c.in-ok-push_u16-2.ensures)))

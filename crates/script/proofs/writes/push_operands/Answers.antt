@@ -6,41 +6,41 @@ use Rattle.script.proofs.writes.push_operands.Goals as goal
 pub returns-in-Memory : goal.returns-in-Memory
 returns-in-Memory c = record {
   text =
-      subst (λ l. IfOk c.push-u32.result (λ _. vec_items c.push-u32.new.text ≡ vec_items c.args.text.now ++ trail (operand_words (said_of l)))) (sym c.in-Memory.is)
-      c.push-u32.ensures;
+      subst (λ l. IfOk c.push_u32.result (λ _. vec_items c.push_u32.new.text ≡ vec_items c.args.text.now ++ trail (operand_words (said_of l)))) (sym c.in-Memory.is)
+      c.push_u32.ensures;
   fits = subst (λ l. Sized (said_of l)) (sym c.in-Memory.is) (omega arith);
 }
 
 pub returns-in-Run : goal.returns-in-Run
 returns-in-Run c = record {
   text =
-      subst (λ l. IfOk c.push-u32-in-Run.result (λ _. vec_items c.push-u32-in-Run.new.text ≡ vec_items c.args.text.now ++ trail (operand_words (said_of l)))) (sym c.in-Run.is)
-      c.push-u32-in-Run.ensures;
+      subst (λ l. IfOk c.push_u32-in-Run.result (λ _. vec_items c.push_u32-in-Run.new.text ≡ vec_items c.args.text.now ++ trail (operand_words (said_of l)))) (sym c.in-Run.is)
+      c.push_u32-in-Run.ensures;
   fits = subst (λ l. Sized (said_of l)) (sym c.in-Run.is) (omega arith);
 }
 
 pub returns-in-Put : goal.returns-in-Put
 returns-in-Put c = record {
   text =
-      subst (λ l. IfOk c.push-put.result (λ _. vec_items c.push-put.new.text ≡ vec_items c.args.text.now ++ trail (operand_words (said_of l)))) (sym c.in-Put.is)
-      c.push-put.ensures;
+      subst (λ l. IfOk c.push_put.result (λ _. vec_items c.push_put.new.text ≡ vec_items c.args.text.now ++ trail (operand_words (said_of l)))) (sym c.in-Put.is)
+      c.push_put.ensures;
   fits = subst (λ l. Sized (said_of l)) (sym c.in-Put.is) (omega arith, omega arith);
 }
 
 pub returns-in-Open : goal.returns-in-Open
 returns-in-Open c = record {
   text =
-      subst (λ l. IfOk c.push-open.result (λ _. vec_items c.push-open.new.text ≡ vec_items c.args.text.now ++ trail (operand_words (said_of l)))) (sym c.in-Open.is)
-      (subst (λ n. IfOk c.push-open.result (λ _. vec_items c.push-open.new.text ≡ vec_items c.args.text.now ++ trail (n ∷ (seal_text c.in-Open.seal ∷ (u16_text c.in-Open.first ∷ (u16_text c.in-Open.count ∷ [])))))) c.deref-in-Open.ensures.value
-      c.push-open.ensures);
+      subst (λ l. IfOk c.push_open.result (λ _. vec_items c.push_open.new.text ≡ vec_items c.args.text.now ++ trail (operand_words (said_of l)))) (sym c.in-Open.is)
+      (subst (λ n. IfOk c.push_open.result (λ _. vec_items c.push_open.new.text ≡ vec_items c.args.text.now ++ trail (n ∷ (seal_text c.in-Open.seal ∷ (u16_text c.in-Open.first ∷ (u16_text c.in-Open.count ∷ [])))))) c.deref-in-Open.ensures.value
+      c.push_open.ensures);
   fits = subst (λ l. Sized (said_of l)) (sym c.in-Open.is) (omega arith, omega arith);
 }
 
 pub returns-in-Entry : goal.returns-in-Entry
 returns-in-Entry c = record {
   text =
-      subst (λ l. IfOk c.push-entry.result (λ _. vec_items c.push-entry.new.text ≡ vec_items c.args.text.now ++ trail (operand_words (said_of l)))) (sym c.in-Entry.is)
-      (subst (λ n. IfOk c.push-entry.result (λ _. vec_items c.push-entry.new.text ≡ vec_items c.args.text.now ++ trail (n ∷ (u16_text c.in-Entry.offset ∷ (u8_text c.in-Entry.byte ∷ []))))) c.deref-in-Entry.ensures.value
-      c.push-entry.ensures);
+      subst (λ l. IfOk c.push_entry.result (λ _. vec_items c.push_entry.new.text ≡ vec_items c.args.text.now ++ trail (operand_words (said_of l)))) (sym c.in-Entry.is)
+      (subst (λ n. IfOk c.push_entry.result (λ _. vec_items c.push_entry.new.text ≡ vec_items c.args.text.now ++ trail (n ∷ (u16_text c.in-Entry.offset ∷ (u8_text c.in-Entry.byte ∷ []))))) c.deref-in-Entry.ensures.value
+      c.push_entry.ensures);
   fits = subst (λ l. Sized (said_of l)) (sym c.in-Entry.is) (omega arith, omega arith);
 }

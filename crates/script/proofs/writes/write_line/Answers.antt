@@ -9,8 +9,8 @@ use Rattle.script.proofs.writes.write_line.Goals as goal
 pub returns : goal.returns
 returns c =
     let said = said_of c.args.line.now in
-    let whole : vec_items c.push-operands.new.text ≡ written_of (said_of c.args.line.now) =
-    begun (first_of said) (vec_items c.in-ok-text.text) (vec_items c.push-operands.new.text) (operand_words said)
-    (c.in-ok-text.ensures.items ∙ c.as-bytes.ensures.value ∙ c.first-word.ensures)
-    c.in-ok-push-operands.ensures.text in
-    record { text = whole; read_back = λ w. ap line_said whole ∙ lawful said c.in-ok-push-operands.ensures.fits w }
+    let whole : vec_items c.push_operands.new.text ≡ written_of (said_of c.args.line.now) =
+    begun (first_of said) (vec_items c.in-ok-text.text) (vec_items c.push_operands.new.text) (operand_words said)
+    (c.in-ok-text.ensures.items ∙ c.as_bytes.ensures.value ∙ c.first_word.ensures)
+    c.in-ok-push_operands.ensures.text in
+    record { text = whole; read_back = λ w. ap line_said whole ∙ lawful said c.in-ok-push_operands.ensures.fits w }

@@ -31,8 +31,8 @@ loop-call-init g c =
     let many = ap length c.into-iter-call-iterator.ensures.into-iter-gives.0 in
     (tt, tt, ap (λ (xs : List Answer). after (map answer_of xs) all) new.items, refl, refl, omega (arith, new.len, new.capacity, many, c.args.calls.ok.0, c.len.ensures))
 
-pub push-reserved-requires : goal.push-reserved-requires
-push-reserved-requires g c = omega (arith, c.loop-call.invariant.5, ap length c.in-Some.ensures.steps.0)
+pub push_reserved-requires : goal.push_reserved-requires
+push_reserved-requires g c = omega (arith, c.loop-call.invariant.5, ap length c.in-Some.ensures.steps.0)
 
 pub loop-call-preserved : goal.loop-call-preserved
 loop-call-preserved g c =
@@ -42,8 +42,8 @@ loop-call-preserved g c =
     let given = map answer_of (vec_items c.loop-call.answers) in
     let took = c.in-Some.ensures.steps.0 in
     let responded = c.respond.ensures in
-    let pushed : map answer_of (vec_items c.push-reserved.new.self) ≡ given ++ (answer_of c.respond.result ∷ []) =
-    ap (map answer_of) c.push-reserved.ensures.items ∙ map-append answer_of (vec_items c.loop-call.answers) (c.respond.result ∷ []) in
+    let pushed : map answer_of (vec_items c.push_reserved.new.self) ≡ given ++ (answer_of c.respond.result ∷ []) =
+    ap (map answer_of) c.push_reserved.ensures.items ∙ map-append answer_of (vec_items c.loop-call.answers) (c.respond.result ∷ []) in
     let rest = performed unit (map call_of c.next.new.self.rest.items) (terminal c.respond.new.self) in (
       tt,
       tt,
@@ -53,7 +53,7 @@ loop-call-preserved g c =
           (ap (λ (ks : List Call). after given (performed unit (map call_of ks) (terminal c.loop-call.self))) (sym took) ∙ c.loop-call.invariant.2),
       responded.hides ∙ c.loop-call.invariant.3,
       responded.keeps ∙ c.loop-call.invariant.4,
-      omega (arith, c.loop-call.invariant.5, ap length took, c.push-reserved.ensures.len, c.push-reserved.ensures.capacity),
+      omega (arith, c.loop-call.invariant.5, ap length took, c.push_reserved.ensures.len, c.push_reserved.ensures.capacity),
     )
 
 pub returns : goal.returns

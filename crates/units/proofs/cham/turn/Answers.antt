@@ -6,7 +6,7 @@ pub returns : goal.returns
 unfolding turned_byte
 returns c =
     let whole = turned_left c.args.amount (word_of c.args.p c.args.q c.args.r c.args.s) in
-    let is : c.rotate-left-turned.result ≡ whole = c.rotate-left-turned.ensures in
+    let is : c.rotate_left-turned.result ≡ whole = c.rotate_left-turned.ensures in
     let low : whole % 256 ≡ whole / 1 % 256 = omega arith in
     record {
       first = ap (λ n. n % 256) is ∙ low;

@@ -13,7 +13,7 @@ loop-i-preserved c =
     let power = c.loop-i.power in
     let sum = c.loop-i.sum in
     let left : 8 - c.loop-i.i ≡ suc (8 - (c.loop-i.i + 1)) = omega arith in
-    (λ j. bit_xor (bit_xor sum (c.by-lowest-bit-sum.ensures j)) (product_of (8 - (c.loop-i.i + 1)) (bits / 2) (c.doubled-power.ensures j)))
+    (λ j. bit_xor (bit_xor sum (c.by_lowest_bit-sum.ensures j)) (product_of (8 - (c.loop-i.i + 1)) (bits / 2) (c.doubled-power.ensures j)))
     ∙ xor_assoc sum (by_lowest_bit bits power) (product_of (8 - (c.loop-i.i + 1)) (bits / 2) (doubled power))
     ∙ ap (λ n. bit_xor sum (product_of n bits power)) (sym left)
     ∙ c.loop-i.invariant

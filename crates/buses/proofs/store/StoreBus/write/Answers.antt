@@ -19,5 +19,5 @@ returns c =
       laws = write_laws;
       bytes = search rules;
       marks = search rules;
-      cells = (λ i. store_cells (set bytes (same i) value.byte) (set marks (same i) (c.mark-byte.ensures i))) ∙ written bytes marks a value.byte value.mark h k ∙ takes bytes marks a value h k;
+      cells = (λ i. store_cells (set bytes (same i) value.byte) (set marks (same i) (c.mark_byte.ensures i))) ∙ written bytes marks a value.byte value.mark h k ∙ takes bytes marks a value h k;
     }

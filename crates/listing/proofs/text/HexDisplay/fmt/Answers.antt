@@ -13,8 +13,8 @@ digit m told same h = digit_bytes (told ∙ ap hex_digit same) h
 pub returns-in-Two-clause-writes : goal.returns-in-Two-clause-writes
 returns-in-Two-clause-writes g c =
     let v = c.args.self.now.value in
-    let y = digit (v / 16 % 16) c.hex-digit-c.ensures refl (omega arith) in
-    let z = digit (v % 16) c.hex-digit-d.ensures refl (omega arith) in
+    let y = digit (v / 16 % 16) c.hex_digit-c.ensures refl (omega arith) in
+    let z = digit (v % 16) c.hex_digit-d.ensures refl (omega arith) in
     λ plain ok.
     subst (λ l. HasWritten g.W.Write.write_str_gives c.args.f.now l c.write.new.self)
     ((λ i. 48 ∷ 120 ∷ (y i ++ z i)) ∙ ap (λ w. hex_text (digit_count w) v) (sym c.in-Two.is))
@@ -23,9 +23,9 @@ returns-in-Two-clause-writes g c =
 pub returns-in-Three-clause-writes : goal.returns-in-Three-clause-writes
 returns-in-Three-clause-writes g c =
     let v = c.args.self.now.value in
-    let x = digit (v / 16 / 16 % 16) c.hex-digit-b.ensures (omega arith) (omega arith) in
-    let y = digit (v / 16 % 16) c.hex-digit-c.ensures refl (omega arith) in
-    let z = digit (v % 16) c.hex-digit-d.ensures refl (omega arith) in
+    let x = digit (v / 16 / 16 % 16) c.hex_digit-b.ensures (omega arith) (omega arith) in
+    let y = digit (v / 16 % 16) c.hex_digit-c.ensures refl (omega arith) in
+    let z = digit (v % 16) c.hex_digit-d.ensures refl (omega arith) in
     λ plain ok.
     subst (λ l. HasWritten g.W.Write.write_str_gives c.args.f.now l c.write-in-Three.new.self)
     ((λ i. 48 ∷ 120 ∷ (x i ++ (y i ++ z i))) ∙ ap (λ w. hex_text (digit_count w) v) (sym c.in-Three.is))
@@ -34,10 +34,10 @@ returns-in-Three-clause-writes g c =
 pub returns-in-Four-clause-writes : goal.returns-in-Four-clause-writes
 returns-in-Four-clause-writes g c =
     let v = c.args.self.now.value in
-    let w = digit (v / 16 / 16 / 16 % 16) c.hex-digit-a.ensures (omega arith) (omega arith) in
-    let x = digit (v / 16 / 16 % 16) c.hex-digit-b.ensures (omega arith) (omega arith) in
-    let y = digit (v / 16 % 16) c.hex-digit-c.ensures refl (omega arith) in
-    let z = digit (v % 16) c.hex-digit-d.ensures refl (omega arith) in
+    let w = digit (v / 16 / 16 / 16 % 16) c.hex_digit-a.ensures (omega arith) (omega arith) in
+    let x = digit (v / 16 / 16 % 16) c.hex_digit-b.ensures (omega arith) (omega arith) in
+    let y = digit (v / 16 % 16) c.hex_digit-c.ensures refl (omega arith) in
+    let z = digit (v % 16) c.hex_digit-d.ensures refl (omega arith) in
     λ plain ok.
     subst (λ l. HasWritten g.W.Write.write_str_gives c.args.f.now l c.write-in-Four.new.self)
     ((λ i. 48 ∷ 120 ∷ (w i ++ (x i ++ (y i ++ z i)))) ∙ ap (λ u. hex_text (digit_count u) v) (sym c.in-Four.is))

@@ -10,6 +10,6 @@ returns-in-Bus-clause-writes g c =
     let pc = c.args.self.now.0.pc in
     λ plain ok.
     subst (λ l. HasWritten g.W.Write.write_str_gives c.args.f.now l c.write.new.self)
-    (ap (λ n. stop_text (stop n (of_bus c.in-Bus.address)) pc) c.cause-number-number.ensures
+    (ap (λ n. stop_text (stop n (of_bus c.in-Bus.address)) pc) c.cause_number-number.ensures
     ∙ ap (λ l. stop_text (stop (stop_of cause).number l) pc) (sym (ap (λ k. (stop_of k).layer) c.in-Bus.is)))
     (c.write.ensures.writes plain ok)

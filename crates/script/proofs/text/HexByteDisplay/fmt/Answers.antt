@@ -6,8 +6,8 @@ use Rattle.script.proofs.text.HexByteDisplay.fmt.Goals as goal
 pub returns-clause-writes : goal.returns-clause-writes
 returns-clause-writes g c =
     let v = c.args.self.now.0 in
-    let d0 = digit (v / 16 % 16) c.hex-digit.ensures refl (omega arith) in
-    let d1 = digit (v % 16) c.hex-digit-2.ensures refl (omega arith) in
+    let d0 = digit (v / 16 % 16) c.hex_digit.ensures refl (omega arith) in
+    let d1 = digit (v % 16) c.hex_digit-2.ensures refl (omega arith) in
     λ plain ok.
     subst (λ l. HasWritten g.W.Write.write_str_gives c.args.f.now l c.write.new.self)
     (λ i. 48 ∷ 120 ∷ (d0 i ++ d1 i))
