@@ -4,8 +4,8 @@ use Rattle.listing.proofs.faults.fault_text.Goals as goal
 
 pub returns-in-OddDigits : goal.returns-in-OddDigits
 returns-in-OddDigits c =
-    subst (λ f. IfOk c.placed-text_in-OddDigits.result (λ t. string_bytes t ≡ fault_text c.args.text.now f)) (sym c.in-OddDigits.is) c.placed-text_in-OddDigits.ensures
+    subst (λ f. IfOk c.placed_text-in-OddDigits.result (λ t. string_bytes t ≡ fault_text c.args.text.now f)) (sym c.in-OddDigits.is) c.placed_text-in-OddDigits.ensures
 
 pub returns-in-TooLong : goal.returns-in-TooLong
 returns-in-TooLong c =
-    subst (λ f. IfOk c.placed-text_in-TooLong.result (λ t. string_bytes t ≡ fault_text c.args.text.now f)) (sym c.in-TooLong.is) c.placed-text_in-TooLong.ensures
+    subst (λ f. IfOk c.placed_text-in-TooLong.result (λ t. string_bytes t ≡ fault_text c.args.text.now f)) (sym c.in-TooLong.is) c.placed_text-in-TooLong.ensures

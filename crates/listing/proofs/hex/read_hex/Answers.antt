@@ -6,17 +6,17 @@ use Rattle.listing.specs.Reader.{resumed}
 use Rattle.listing.proofs.Reading.{fault_settles}
 use Rattle.listing.proofs.hex.read_hex.Goals as goal
 
-pub returns-in-err-take : goal.returns-in-err-take
-returns-in-err-take c =
-    let p = err_from_is_err_and c.from-residual.result c.from-residual.ensures.1 in
+pub returns-in_err-take : goal.returns-in_err-take
+returns-in_err-take c =
+    let p = err_from_is_err_and c.from_residual.result c.from_residual.ensures.1 in
     let here = at_drop_more (resumed c.loop-at.reader c.loop-at.at) c.args.text.now c.loop-at.at 0 (omega arith) in
-    let took = c.in-err-take.ensures.took (drop (c.loop-at.at + 1) c.args.text.now) in
-    rw (p.1, p.2) (subst (ReadAs (Err c.in-err-take.field-0.0)) (sym here ∙ c.loop-at.invariant.1) (fault_settles c.in-err-take.field-0.0 _ _ took))
+    let took = c.in_err-take.ensures.took (drop (c.loop-at.at + 1) c.args.text.now) in
+    rw (p.1, p.2) (subst (ReadAs (Err c.in_err-take.field-0.0)) (sym here ∙ c.loop-at.invariant.1) (fault_settles c.in_err-take.field-0.0 _ _ took))
 
 pub loop-at-preserved : goal.loop-at-preserved
 loop-at-preserved c =
     let here = at_drop_more (resumed c.loop-at.reader c.loop-at.at) c.args.text.now c.loop-at.at 0 (omega arith) in
-    let took = c.in-ok-take.ensures.took (drop (c.loop-at.at + 1) c.args.text.now) in
+    let took = c.in_ok-take.ensures.took (drop (c.loop-at.at + 1) c.args.text.now) in
     (c.take.ensures.small, sym took ∙ sym here ∙ c.loop-at.invariant.1)
 
 pub returns-in-Some : goal.returns-in-Some

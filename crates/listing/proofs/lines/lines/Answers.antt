@@ -9,7 +9,7 @@ loop-at-preserved c =
     let is = c.line_at-line.ensures ∙ ap (line_of c.loop-at.at _) c.byte_at.ensures in
     let old = vec_items c.loop-at.lines in
     let new = vec_items c.push.new.self in
-    let pushed = c.in-ok-push.ensures.items in (
+    let pushed = c.in_ok-push.ensures.items in (
       lines_more c.args.program.now c.loop-at.at (omega arith) old new is c.size-at.ensures pushed c.loop-at.invariant.0,
       bytes_more c.args.program.now c.loop-at.at (omega arith) old new is c.size-at.ensures pushed c.loop-at.invariant.1,
     )

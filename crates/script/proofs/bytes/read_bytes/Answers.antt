@@ -5,14 +5,14 @@ use Rattle.script.proofs.bytes.read_bytes.Goals as goal
 pub returns-then-at-word : goal.returns-then-at-word
 returns-then-at-word c = byte_odd c.args.word.now (vec_items c.loop-at.bytes) c.loop-at.at _ c.loop-at.invariant.1 (omega arith) (omega arith)
 
-pub returns-in-default : goal.returns-in-default
-returns-in-default c = byte_none c.args.word.now (vec_items c.loop-at.bytes) c.loop-at.at _ c.loop-at.invariant.1 (omega arith) (sym c.in-default.ensures)
+pub returns-in_default : goal.returns-in_default
+returns-in_default c = byte_none c.args.word.now (vec_items c.loop-at.bytes) c.loop-at.at _ c.loop-at.invariant.1 (omega arith) (sym c.in_default.ensures)
 
 pub loop-at-preserved : goal.loop-at-preserved
 loop-at-preserved c = (
   omega arith,
   byte_more c.args.word.now (vec_items c.loop-at.bytes) c.loop-at.at _ c.loop-at.invariant.1
-      c.in-Some.byte (vec_items c.push.new.self) (omega arith) (sym c.in-Some.ensures) c.in-ok-push.ensures.items,
+      c.in-Some.byte (vec_items c.push.new.self) (omega arith) (sym c.in-Some.ensures) c.in_ok-push.ensures.items,
 )
 
 pub returns : goal.returns

@@ -2,8 +2,8 @@ use Rattle.std.proofs.Common.{◌+◌, ◌*◌, min, sym, ap, ◌∙◌, arith}
 use Rattle.script.proofs.Values.{digit_more, digit_none, digits_all}
 use Rattle.script.proofs.numbers.value.Goals as goal
 
-pub returns-in-default : goal.returns-in-default
-returns-in-default c = digit_none c.args.base c.args.digits.now c.loop-b.value c.loop-b.b-index _ (omega arith) c.loop-b.invariant.1 (sym c.in-default.ensures)
+pub returns-in_default : goal.returns-in_default
+returns-in_default c = digit_none c.args.base c.args.digits.now c.loop-b.value c.loop-b.b-index _ (omega arith) c.loop-b.invariant.1 (sym c.in_default.ensures)
 
 pub loop-b-preserved : goal.loop-b-preserved
 loop-b-preserved c = (

@@ -6,4 +6,4 @@ use Rattle.script.proofs.writes.push_entry.Goals as goal
 pub returns : goal.returns
 returns c =
     push_then (vec_items c.args.text.now) c.args.name.now (u16_text c.args.offset ∷ (u8_text c.args.byte ∷ []))
-    c.in-ok-push_word.ensures c.in-ok-push_put.ensures
+    c.in_ok-push_word.ensures c.in_ok-push_put.ensures

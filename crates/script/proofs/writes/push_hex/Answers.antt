@@ -10,7 +10,7 @@ loop-b-preserved c =
     (vec_items c.args.text.now) (vec_items c.loop-b.text) (vec_items c.push.new.self) (vec_items c.push-in-loop-b.new.self)
     c.hex_digit.result c.hex_digit-in-loop-b.result
     (omega arith) c.loop-b.invariant c.hex_digit.ensures c.hex_digit-in-loop-b.ensures
-    c.in-ok-push.ensures.items c.in-ok-push-2.ensures.items
+    c.in_ok-push.ensures.items c.in_ok-push-2.ensures.items
 
 pub returns : goal.returns
 returns c = c.loop-b.invariant ∙ ap (λ l. vec_items c.args.text.now ++ hex_of l) (take_all c.loop-b.b-index c.args.bytes.now (omega arith))

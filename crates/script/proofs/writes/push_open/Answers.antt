@@ -13,7 +13,7 @@ returns c =
     let sealed = vec_items c.push_word-2.new.text in
     let begun = vec_items c.push_u16.new.text in
     let new = vec_items c.push_u16-2.new.text in
-    let told = pushed_as named c.as_bytes.result.now seal sealed (c.as_bytes.ensures.value ∙ c.seal_text.ensures) c.in-ok-push_word-2.ensures in
-    push_then old c.args.name.now (seal ∷ (first ∷ (count ∷ []))) {mid = named} {new = new} c.in-ok-push_word.ensures
+    let told = pushed_as named c.as_bytes.result.now seal sealed (c.as_bytes.ensures.value ∙ c.seal_text.ensures) c.in_ok-push_word-2.ensures in
+    push_then old c.args.name.now (seal ∷ (first ∷ (count ∷ []))) {mid = named} {new = new} c.in_ok-push_word.ensures
     (push_then named seal (first ∷ (count ∷ [])) {mid = sealed} {new = new} told
-    (push_then sealed first (count ∷ []) {mid = begun} {new = new} c.in-ok-push_u16.ensures (push_last begun count {new = new} c.in-ok-push_u16-2.ensures)))
+    (push_then sealed first (count ∷ []) {mid = begun} {new = new} c.in_ok-push_u16.ensures (push_last begun count {new = new} c.in_ok-push_u16-2.ensures)))

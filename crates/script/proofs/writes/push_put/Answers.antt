@@ -6,4 +6,4 @@ use Rattle.script.proofs.writes.push_put.Goals as goal
 pub returns : goal.returns
 returns c =
     push_then (vec_items c.args.text.now) (u16_text c.args.address) (u8_text c.args.byte ∷ [])
-    c.in-ok-push_u16.ensures (push_last (vec_items c.push_u16.new.text) (u8_text c.args.byte) c.in-ok-push_u8.ensures)
+    c.in_ok-push_u16.ensures (push_last (vec_items c.push_u16.new.text) (u8_text c.args.byte) c.in_ok-push_u8.ensures)

@@ -11,9 +11,9 @@ use Rattle.terminal.proofs.Performing.{after, at_end, none_left, turn}
 use Rattle.terminal.proofs.Theorems.{noninterference, transparency}
 use Rattle.terminal.proofs.Terminal.perform.Goals as goal
 
-pub returns-in-err-answers : goal.returns-in-err-answers
-returns-in-err-answers g c =
-    let p = err_from_is_err_and c.from-residual.result c.from-residual.ensures.1 in
+pub returns-in_err-answers : goal.returns-in_err-answers
+returns-in_err-answers g c =
+    let p = err_from_is_err_and c.from_residual.result c.from_residual.ensures.1 in
     let codes = g.U.Unit.codes c.args.self.now.machine.unit in
     rw p.1 (record {
       answers = tt;
@@ -26,9 +26,9 @@ returns-in-err-answers g c =
 
 pub loop-call-init : goal.loop-call-init
 loop-call-init g c =
-    let all = performed (served g.U.Unit.operates (g.U.Unit.codes c.args.self.now.machine.unit)) (map call_of c.into-iter-call-iterator.result.rest.items) (terminal_of g.B.Bus.cells g.U.Unit.contents c.args.self.now) in
-    let new = c.in-ok-answers.ensures in
-    let many = ap length c.into-iter-call-iterator.ensures.into-iter-gives.0 in
+    let all = performed (served g.U.Unit.operates (g.U.Unit.codes c.args.self.now.machine.unit)) (map call_of c.into_iter-call-iterator.result.rest.items) (terminal_of g.B.Bus.cells g.U.Unit.contents c.args.self.now) in
+    let new = c.in_ok-answers.ensures in
+    let many = ap length c.into_iter-call-iterator.ensures.into_iter_gives.0 in
     (tt, tt, ap (λ (xs : List Answer). after (map answer_of xs) all) new.items, refl, refl, omega (arith, new.len, new.capacity, many, c.args.calls.ok.0, c.len.ensures))
 
 pub push_reserved-requires : goal.push_reserved-requires
@@ -67,7 +67,7 @@ returns g c =
     sym (at_end given (terminal c.loop-call.self))
     ∙ ap (λ (ks : List Call). after given (performed unit (map call_of ks) (terminal c.loop-call.self))) (sym empty)
     ∙ c.loop-call.invariant.2
-    ∙ ap (λ (ks : List Call). performed unit (map call_of ks) (terminal c.args.self.now)) c.into-iter-call-iterator.ensures.into-iter-gives.0 in
+    ∙ ap (λ (ks : List Call). performed unit (map call_of ks) (terminal c.args.self.now)) c.into_iter-call-iterator.ensures.into_iter_gives.0 in
     record {
       answers = ap (λ p. p.0) all;
       leaves = ap (λ p. p.1) all;

@@ -27,7 +27,7 @@ returns-in-Ended g c =
     let state = state_of g.B.Bus.cells g.U.Unit.contents in
     let here = c.in-Made.ensures in
     record {
-      ran = quiet_step true (state c.step.new.self) c.in-Made.taken c.loop-steps.steps c.loop-steps.cycles (λ v. run (served g.U.Unit.operates (g.U.Unit.codes c.args.self.now.unit)) (vec_items c.args.self.now.program) (c.args.budget - (c.loop-steps.steps + 1)) v) (ap is_ended c.in-Ended.is) ∙ turn g.U.Unit.operates (g.U.Unit.codes c.args.self.now.unit) (g.U.Unit.codes was.unit) (vec_items c.args.self.now.program) (vec_items was.program) c.args.budget c.loop-steps.steps c.loop-steps.cycles (state was) (state c.step.new.self) (made c.in-Made.taken None) _ c.loop-steps.invariant.3 (ap vec_items c.loop-steps.invariant.1) (omega arith) here.state (sym (ap (made c.in-Made.taken) c.in-default.is) ∙ here.told) c.loop-steps.invariant.0;
+      ran = quiet_step true (state c.step.new.self) c.in-Made.taken c.loop-steps.steps c.loop-steps.cycles (λ v. run (served g.U.Unit.operates (g.U.Unit.codes c.args.self.now.unit)) (vec_items c.args.self.now.program) (c.args.budget - (c.loop-steps.steps + 1)) v) (ap is_ended c.in-Ended.is) ∙ turn g.U.Unit.operates (g.U.Unit.codes c.args.self.now.unit) (g.U.Unit.codes was.unit) (vec_items c.args.self.now.program) (vec_items was.program) c.args.budget c.loop-steps.steps c.loop-steps.cycles (state was) (state c.step.new.self) (made c.in-Made.taken None) _ c.loop-steps.invariant.3 (ap vec_items c.loop-steps.invariant.1) (omega arith) here.state (sym (ap (made c.in-Made.taken) c.in_default.is) ∙ here.told) c.loop-steps.invariant.0;
       program = here.program ∙ c.loop-steps.invariant.1;
       hidden = here.hidden ∙ c.loop-steps.invariant.2;
       codes = here.codes ∙ c.loop-steps.invariant.3;
@@ -40,7 +40,7 @@ loop-steps-preserved g c =
     let state = state_of g.B.Bus.cells g.U.Unit.contents in
     let here = c.in-Made.ensures in
     let more = run (served g.U.Unit.operates (g.U.Unit.codes c.args.self.now.unit)) (vec_items c.args.self.now.program) (c.args.budget - (c.loop-steps.steps + 1)) (state c.step.new.self) in
-    (twice c.loop-steps.steps c.loop-steps.cycles 1 c.in-Made.taken more ∙ quiet_step false (state c.step.new.self) c.in-Made.taken c.loop-steps.steps c.loop-steps.cycles (λ v. run (served g.U.Unit.operates (g.U.Unit.codes c.args.self.now.unit)) (vec_items c.args.self.now.program) (c.args.budget - (c.loop-steps.steps + 1)) v) (not_ended c.step.new.self.core.mode c.in-default-mode.not-Ended) ∙ turn g.U.Unit.operates (g.U.Unit.codes c.args.self.now.unit) (g.U.Unit.codes was.unit) (vec_items c.args.self.now.program) (vec_items was.program) c.args.budget c.loop-steps.steps c.loop-steps.cycles (state was) (state c.step.new.self) (made c.in-Made.taken None) _ c.loop-steps.invariant.3 (ap vec_items c.loop-steps.invariant.1) (omega arith) here.state (sym (ap (made c.in-Made.taken) c.in-default.is) ∙ here.told) c.loop-steps.invariant.0, here.program ∙ c.loop-steps.invariant.1, here.hidden ∙ c.loop-steps.invariant.2, here.codes ∙ c.loop-steps.invariant.3, omega arith, search rules)
+    (twice c.loop-steps.steps c.loop-steps.cycles 1 c.in-Made.taken more ∙ quiet_step false (state c.step.new.self) c.in-Made.taken c.loop-steps.steps c.loop-steps.cycles (λ v. run (served g.U.Unit.operates (g.U.Unit.codes c.args.self.now.unit)) (vec_items c.args.self.now.program) (c.args.budget - (c.loop-steps.steps + 1)) v) (not_ended c.step.new.self.core.mode c.in_default-mode.not-Ended) ∙ turn g.U.Unit.operates (g.U.Unit.codes c.args.self.now.unit) (g.U.Unit.codes was.unit) (vec_items c.args.self.now.program) (vec_items was.program) c.args.budget c.loop-steps.steps c.loop-steps.cycles (state was) (state c.step.new.self) (made c.in-Made.taken None) _ c.loop-steps.invariant.3 (ap vec_items c.loop-steps.invariant.1) (omega arith) here.state (sym (ap (made c.in-Made.taken) c.in_default.is) ∙ here.told) c.loop-steps.invariant.0, here.program ∙ c.loop-steps.invariant.1, here.hidden ∙ c.loop-steps.invariant.2, here.codes ∙ c.loop-steps.invariant.3, omega arith, search rules)
 
 pub returns-in-Waits : goal.returns-in-Waits
 returns-in-Waits g c =
