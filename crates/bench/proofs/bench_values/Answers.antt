@@ -9,33 +9,33 @@ use Rattle.bench.proofs.bench_values.Goals as goal
 pub returns : goal.returns
 unfolding inverse product affine substituted
 returns c = record {
-  past_largest = refl;
-  past_byte = refl;
-  below_nought = refl;
-  past_smallest = refl;
-  mvs_written = refl;
-  mvs_read = refl;
-  mvv_written = refl;
-  mvv_read = refl;
-  spb_written = refl;
-  spb_read = refl;
-  asb_nought = refl;
-  amc_column = refl;
-}
-
-pub returns-machines : goal.returns-machines
-returns-machines c = record {
-  mvs_steps = refl;
-  mvs_wraps = refl;
-  lpb_own_pointer = refl;
-  first_program = refl;
-  largest_program = refl;
-  larger_program = refl;
-  more_pairs = refl;
-  lines = refl;
-  registers = refl;
-  largest_interval = refl;
-  larger_interval = refl;
-  later_interval = refl;
-  xor_held = λ b. ap held_byte (xor_self b);
+  bench_values = record {
+    past_largest = refl;
+    past_byte = refl;
+    below_nought = refl;
+    past_smallest = refl;
+    mvs_written = refl;
+    mvs_read = refl;
+    mvv_written = refl;
+    mvv_read = refl;
+    spb_written = refl;
+    spb_read = refl;
+    asb_nought = refl;
+    amc_column = refl;
+  };
+  machines = record {
+    mvs_steps = refl;
+    mvs_wraps = refl;
+    lpb_own_pointer = refl;
+    first_program = refl;
+    largest_program = refl;
+    larger_program = refl;
+    more_pairs = refl;
+    lines = refl;
+    registers = refl;
+    largest_interval = refl;
+    larger_interval = refl;
+    later_interval = refl;
+    xor_held = λ b. ap held_byte (xor_self b);
+  };
 }
