@@ -11,6 +11,7 @@ use listing::faults::fault_text;
 use listing::hex::read_hex;
 use listing::lines::listing_text;
 use std::io::Read;
+use std::process::ExitCode;
 use std::{env, fs};
 
 const USAGE: &str = "use: hokster list FILE, or hokster play FILE";
@@ -73,10 +74,12 @@ fn run(rt: &HostRuntime) -> Result<(), Failure> {
     }
 }
 
-fn main(rt: HostRuntime) -> Result<(), Failure> {
-    let done = run(&rt);
-    if let Err(failure) = &done {
-        let _ = eprintln!(rt; "{failure}");
+fn main(rt: HostRuntime) -> ExitCode {
+    match run(&rt) {
+        Ok(()) => ExitCode::SUCCESS,
+        Err(failure) => {
+            let _ = eprintln!(rt; "{failure}");
+            ExitCode::FAILURE
+        }
     }
-    done
 }
