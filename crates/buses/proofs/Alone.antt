@@ -1,11 +1,11 @@
 -- Writing and lifting are local. Assumes nothing.
-use Rattle.std.proofs.Common.{◌≡◌, ℕ, Bool, true, false, cond, eqb, Ok, Err, Result, sym, refl, ap, ◌∙◌, subst, arith, rules, true-eqb}
+use Rattle.std.proofs.Common.{◌≡◌, ℕ, Bool, true, false, cond, eqb, Ok, Err, Result, sym, refl, ap, ◌∙◌, arith, rules, true-eqb}
 use Rattle.marks.specs.declared.Mark.{Mark}
 use Rattle.marks.specs.declared.Mark.TheVariants.{Held, Unheld}
 use Rattle.marks.specs.declared.Marked.{Marked}
 use Rattle.buses.specs.declared.bus.Kind.TheVariants.{Board}
 use Rattle.buses.specs.Cells.{Cell, Cells, absent, plain, board, kind_of, put_at, settled, shown, write_cell, lift_cell}
-use Rattle.buses.specs.Laws.{Local, written, WriteLaws, LiftLaws}
+use Rattle.buses.specs.Laws.{Local, WriteLaws, LiftLaws}
 
 -- a cell that becomes another of its kind
 same_kind : (cs : Cells) (a : ℕ) (c : Cell) → kind_of c ≡ kind_of (cs a) → Local a cs (put_at cs a c)

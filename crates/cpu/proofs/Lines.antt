@@ -1,6 +1,6 @@
 -- The count of trailing zeros of a set of lines is its lowest line. Assumes nothing.
-use Rattle.std.proofs.Common.{◌≡◌, ℕ, zero, suc, ◌+◌, ◌*◌, ◌/◌, ◌%◌, ◌^◌, ◌<◌, ◌≤◌, Bool, true, false, cond, ◌&&◌, eqb, ◌⊎◌, Some, None, Option, unwrap_or, sym, refl, ap, ◌∙◌, subst, inl, inr, ⊎_elim, arith, shr-shr}
-use lib.Bits.{bit_and, and_shr, and_mod, and_le_l}
+use Rattle.std.proofs.Common.{◌≡◌, ℕ, zero, suc, ◌+◌, ◌/◌, ◌%◌, ◌^◌, ◌<◌, ◌≤◌, Bool, true, false, cond, ◌&&◌, eqb, ◌⊎◌, Some, None, Option, unwrap_or, sym, refl, ap, ◌∙◌, subst, inl, inr, ⊎_elim, arith, shr-shr}
+use lib.Bits.{bit_and, and_shr, and_mod}
 use lib.Count.{count_trailing_zeros, under}
 use Rattle.cpu.specs.declared.state.Core.{Core}
 use Rattle.cpu.specs.Interrupts.{has_line, lowest, LowestDue}

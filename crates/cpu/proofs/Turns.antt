@@ -1,5 +1,5 @@
 -- One turn of the loop that makes a run's steps. Assumes nothing.
-use Rattle.std.proofs.Common.{◌≡◌, ℕ, suc, ◌+◌, ◌-◌, ◌<◌, Bool, true, false, cond, List, Some, None, Option, sym, refl, ap, ◌∙◌, arith}
+use Rattle.std.proofs.Common.{◌≡◌, ℕ, suc, ◌+◌, ◌-◌, ◌<◌, Bool, false, cond, List, None, sym, refl, ap, ◌∙◌, arith}
 use Rattle.units.specs.Meaning.{Meaning}
 use Rattle.cpu.specs.declared.state.Mode.{Mode}
 use Rattle.cpu.specs.declared.state.Mode.TheVariants.{Idle, Going, Waiting, Ended, Faulted}
@@ -7,7 +7,6 @@ use Rattle.cpu.specs.Instructions.{served}
 use Rattle.cpu.specs.State.{State}
 use Rattle.cpu.specs.Steps.{Told, made, step}
 use Rattle.cpu.specs.Runs.{Ending, Ran, ran, ended, afterwards, is_ended, onward, run}
-use Rattle.cpu.proofs.Runs.{twice}
 
 -- the step that was made, and what it makes of the run; codes and program are still those of the beginning
 pub turn : (op : Meaning) (codes now-codes : ℕ → Bool) (program now-program : List ℕ) (budget steps cycles : ℕ) (s u : State) (t : Told) (all : Ran) →

@@ -1,5 +1,5 @@
 -- What each instruction does, pc being already that of the next one. Assumes nothing.
-use Rattle.std.specs.Prelude.{◌≡◌, ℕ, zero, suc, ◌+◌, ◌-◌, ◌*◌, ◌/◌, ◌%◌, ◌^◌, Bool, true, false, cond, not, ◌&&◌, List, set, Some, None, Ok, Err, Option, Result, ◌==◌, bit_and, bit_or, bit_xor, nat_le, slice_index_or, slice_set}
+use Rattle.std.specs.Prelude.{◌≡◌, ℕ, zero, suc, ◌+◌, ◌-◌, ◌*◌, ◌/◌, ◌%◌, ◌^◌, Bool, false, cond, ◌&&◌, List, Some, None, Ok, Err, Option, Result, ◌==◌, bit_and, bit_or, bit_xor, nat_le, slice_index_or, slice_set}
 use Rattle.marks.specs.declared.Mark.{Mark}
 use Rattle.marks.specs.declared.Marked.{Marked}
 use Rattle.marks.specs.Marks.{held, join, unheld}
@@ -9,17 +9,15 @@ use Rattle.isa.specs.declared.Alu.{Alu}
 use Rattle.isa.specs.declared.Alu.TheVariants as alu
 use Rattle.isa.specs.declared.Flag.{Flag}
 use Rattle.isa.specs.declared.Flag.TheVariants as flag
-use Rattle.isa.specs.declared.Instruction.{Instruction}
-use Rattle.isa.specs.declared.Instruction.TheVariants as i
-use Rattle.buses.specs.Cells.{Cells, Cell, read_cell, write_cell, put_at}
+use Rattle.buses.specs.Cells.{Cells, read_cell, write_cell, put_at}
 use Rattle.units.specs.declared.unit.Reply.{Reply}
 use Rattle.units.specs.declared.unit.Status.{Status}
 use Rattle.units.specs.Meaning.{Contents, Operands, Meaning, operands}
 use Rattle.cpu.specs.declared.state.Core.{Core}
-use Rattle.cpu.specs.declared.state.Mode.TheVariants.{Waiting, Ended}
+use Rattle.cpu.specs.declared.state.Mode.TheVariants.{Ended}
 use Rattle.cpu.specs.Faults.{Stop, stop, of_core, of_bus, of_unit, from, and_then}
 use Rattle.cpu.specs.Outcomes.{told}
-use Rattle.cpu.specs.State.{State, register, with_register, with_registers, with_status, with_pc, with_sp, with_enabled, with_vectors, with_latched, with_mode, with_handling}
+use Rattle.cpu.specs.State.{register, with_register, with_registers, with_status, with_pc, with_sp, with_enabled, with_vectors, with_latched, with_mode, with_handling}
 
 -- a byte with a mark
 abbrev pub marked : ℕ → Mark → Marked

@@ -1,8 +1,7 @@
 -- What the machine's answers and its parts stand for. Assumes nothing.
-use Rattle.std.specs.Prelude.{ℕ, Ok, Err, Result}
+use Rattle.std.specs.Prelude.{Ok, Err, Result}
 use Rattle.buses.specs.Cells.{Cells}
 use Rattle.units.specs.Meaning.{Contents}
-use Rattle.cpu.specs.declared.faults.Cause.{Cause}
 use Rattle.cpu.specs.declared.faults.Fault.{Fault}
 use Rattle.cpu.specs.declared.machine.Machine.{Machine}
 use Rattle.cpu.specs.declared.machine.Ending.{Ending}

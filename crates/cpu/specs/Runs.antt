@@ -1,11 +1,11 @@
 -- A run: steps until one of them ends it. Assumes nothing.
-use Rattle.std.specs.Prelude.{◌≡◌, ℕ, zero, suc, ◌+◌, ◌≤◌, Bool, true, false, cond, List, Some, None, Option}
+use Rattle.std.specs.Prelude.{ℕ, zero, suc, ◌+◌, Bool, true, false, cond, List, Some, None}
 use Rattle.cpu.specs.declared.state.Mode.{Mode}
 use Rattle.cpu.specs.declared.state.Mode.TheVariants.{Idle, Going, Waiting, Ended, Faulted}
 use Rattle.cpu.specs.Faults.{Fault}
 use Rattle.cpu.specs.Instructions.{Service}
 use Rattle.cpu.specs.State.{State}
-use Rattle.cpu.specs.Steps.{Told, made, waits, faults, Stepped, step}
+use Rattle.cpu.specs.Steps.{Told, made, waits, faults, step}
 
 pub data Ending : Type 0 where
   said : ℕ → Ending

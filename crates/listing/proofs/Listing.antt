@@ -1,5 +1,5 @@
 -- One line more of a listing. Assumes nothing.
-use Rattle.std.proofs.Common.{◌≡◌, ℕ, ◌+◌, ◌<◌, Bool, true, false, cond, eqb, ltb, List, [], ◌∷◌, ◌++◌, length, get_or, take, drop, Some, None, Option, sym, refl, ap, ◌∙◌, subst, append_assoc, append-nil, add-zero, arith, rules}
+use Rattle.std.proofs.Common.{◌≡◌, ℕ, ◌+◌, ◌<◌, Bool, true, false, cond, eqb, List, [], ◌∷◌, ◌++◌, length, get_or, take, drop, Some, None, Option, sym, refl, ap, ◌∙◌, subst, append_assoc, append-nil, add-zero, arith, rules}
 use Rattle.std.proofs.lemmas.List.{take_more, drop_more, drop-drop, get_or-drop, length-drop}
 use Rattle.isa.specs.declared.Word.{Word}
 use Rattle.isa.specs.declared.Word.TheVariants.{One, Two}

@@ -1,11 +1,10 @@
 -- The digits of bytes are read as those bytes. Assumes nothing.
-use Rattle.std.proofs.Common.{◌≡◌, ℕ, suc, ◌+◌, ◌-◌, ◌*◌, ◌/◌, ◌%◌, ◌<◌, ◌≤◌, true, false, cond, eqb, List, [], ◌∷◌, ◌++◌, length, get_or, take, Some, None, Ok, Err, Result, sym, refl, ap, ◌∙◌, append_assoc, arith, rules}
+use Rattle.std.proofs.Common.{◌≡◌, ℕ, suc, ◌+◌, ◌-◌, ◌*◌, ◌/◌, ◌%◌, ◌<◌, ◌≤◌, false, eqb, List, [], ◌∷◌, ◌++◌, length, get_or, take, Some, None, Ok, sym, refl, ap, ◌∙◌, append_assoc, arith, rules}
 use lib.Utf8.{encode}
 use Rattle.std.proofs.lemmas.Str.Ascii.{encode_ascii}
 use Rattle.std.proofs.lemmas.List.{take_more}
-use Rattle.listing.specs.declared.hex.Fault.{Fault}
 use Rattle.listing.specs.Digits.{digit_of, hex_digit, hex_of}
-use Rattle.listing.specs.Hex.{counted, paired, before, is_blank, read_hex}
+use Rattle.listing.specs.Hex.{counted, paired, before, read_hex}
 use Rattle.listing.proofs.Reading.{counts, second_digit}
 
 digit_value : (n : ℕ) → n < 16 → digit_of (hex_digit n) ≡ Some n

@@ -7,7 +7,7 @@ use Rattle.script.specs.declared.operands.UnitName.{UnitName}
 use Rattle.script.specs.declared.operands.UnitName.TheVariants.{Aes, Cham}
 use Rattle.script.specs.declared.verbs.Verb.TheVariants as verb
 use Rattle.script.specs.Bytes.{bytes_of}
-use Rattle.script.specs.Lines.{Said, memory, bytes, held, board, unit, load, start, raise, run, put, opening, entry, close, cell, register, status, u8_at, u16_at, u32_at, bytes_at, bytes_said, load_said, put_said, line_said}
+use Rattle.script.specs.Lines.{Said, memory, bytes, held, board, unit, load, start, raise, run, put, opening, entry, close, cell, register, status, u8_at, u16_at, u32_at, bytes_at, line_said}
 use Rattle.script.specs.Numbers.{number_up_to}
 use Rattle.script.specs.Operands.{seal_of, unit_of}
 use Rattle.script.specs.Reads.{and_then}

@@ -1,13 +1,12 @@
 -- A line that is written is read as that line. Assumes nothing.
-use Rattle.std.proofs.Common.{◌≡◌, ℕ, suc, ◌+◌, ◌*◌, ◌/◌, ◌%◌, ◌<◌, ◌≤◌, Bool, true, false, cond, List, [], ◌∷◌, ◌++◌, get_or, Some, None, Ok, Err, Option, Result, sym, refl, ap, ◌∙◌, arith, rules}
-use Rattle.script.specs.declared.faults.Fault.{Fault}
+use Rattle.std.proofs.Common.{◌≡◌, ℕ, suc, ◌+◌, ◌*◌, ◌/◌, ◌%◌, ◌<◌, ◌≤◌, true, false, cond, List, [], ◌∷◌, Some, None, Ok, Err, Option, refl, ap, ◌∙◌, arith, rules}
 use Rattle.script.specs.declared.faults.Fault.TheVariants.{NoBytes}
-use Rattle.script.specs.declared.numbers.Base.TheVariants.{Ten, Sixteen}
+use Rattle.script.specs.declared.numbers.Base.TheVariants.{Sixteen}
 use Rattle.script.specs.Bytes.{pair_of, before, bytes_of}
 use Rattle.script.specs.Numbers.{digit_of, value_from, up_to, number_up_to}
 use Rattle.script.specs.Text.{hex_digit, hex_of}
 use Rattle.script.specs.Words.{ends_word}
-use Rattle.script.specs.Writes.{number_text, u8_text, u16_text, u32_text, is_plain, is_word, is_filled, Small}
+use Rattle.script.specs.Writes.{u8_text, u16_text, u32_text, is_plain, is_word, is_filled, Small}
 
 digit_value : (n : ℕ) → n < 16 → digit_of (hex_digit n) ≡ Some n
 digit_value n h = search rules

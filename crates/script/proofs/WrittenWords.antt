@@ -1,10 +1,9 @@
 -- Words that are written are found again. Assumes nothing.
-use Rattle.std.proofs.Common.{◌≡◌, ℕ, zero, suc, ◌+◌, ◌≤◌, Bool, true, false, cond, ◌||◌, eqb, List, [], ◌∷◌, ◌++◌, length, get_or, take, drop, Some, None, Ok, Err, Option, Result, sym, refl, ap, ◌∙◌, arith, rules}
+use Rattle.std.proofs.Common.{◌≡◌, ℕ, zero, suc, ◌+◌, Bool, true, false, cond, ◌||◌, eqb, List, [], ◌∷◌, ◌++◌, length, get_or, take, drop, Some, None, Ok, Err, refl, ap, ◌∙◌, arith, rules}
 use Rattle.std.proofs.lemmas.List.{take_at, drop_at, get_or_past}
-use Rattle.script.specs.declared.faults.Fault.{Fault}
 use Rattle.script.specs.declared.faults.Fault.TheVariants.{MissingWord, ExtraWord}
 use Rattle.script.specs.declared.verbs.Verb.{Verb}
-use Rattle.script.specs.Lines.{Said, operands_said, count_said, verb_said, begun_said, line_said}
+use Rattle.script.specs.Lines.{Said, operands_said, count_said, begun_said, line_said}
 use Rattle.script.specs.Reads.{and_then}
 use Rattle.script.specs.Verbs.{verb_of, operand_count}
 use Rattle.script.specs.Words.{is_blank, ends_word, blank_count, word_length, unblanked, first_word, after_word, word_at}

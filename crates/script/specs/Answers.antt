@@ -1,5 +1,5 @@
 -- Answers as text. Assumes nothing.
-use Rattle.std.specs.Prelude.{ℕ, Bool, true, false, List, [], ◌∷◌, ◌++◌, codes, decimal}
+use Rattle.std.specs.Prelude.{ℕ, Bool, true, false, List, [], ◌++◌, codes, decimal}
 use Rattle.cpu.specs.Faults.{Layer, of_core, of_bus, of_unit, Stop, stop_of}
 use Rattle.cpu.specs.declared.machine.Ending.{Ending}
 use Rattle.cpu.specs.declared.machine.Ending.TheVariants as ending

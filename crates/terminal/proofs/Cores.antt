@@ -1,5 +1,5 @@
 -- Cores in relation stay so when a part is replaced. Assumes nothing.
-use Rattle.std.proofs.Common.{◌≡◌, ℕ, zero, suc, ◌+◌, Bool, List, [], ◌∷◌, get_or, set, replicate, refl, ap}
+use Rattle.std.proofs.Common.{◌≡◌, ℕ, zero, suc, ◌+◌, Bool, List, [], ◌∷◌, get_or, set, replicate, refl}
 use Rattle.marks.specs.declared.Marked.{Marked}
 use Rattle.marks.specs.Marks.{unheld}
 use Rattle.marks.specs.Relations.{Rel, Pointwise}

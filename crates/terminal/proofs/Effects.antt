@@ -1,5 +1,5 @@
 -- Machines in relation do each instruction in relation. Assumes nothing.
-use Rattle.std.proofs.Common.{◌≡◌, ℕ, ◌+◌, ◌-◌, ◌*◌, ◌/◌, ◌%◌, ◌^◌, Bool, true, false, cond, eqb, ◌⊎◌, List, [], ◌∷◌, get_or, set, Some, None, Ok, Err, Option, Result, sym, refl, ap, ◌∙◌, subst, inl, inr, ⊎_elim}
+use Rattle.std.proofs.Common.{◌≡◌, ℕ, ◌+◌, ◌-◌, ◌*◌, ◌/◌, ◌%◌, ◌^◌, Bool, true, false, cond, eqb, List, [], ◌∷◌, get_or, set, Some, None, Ok, Err, Option, Result, sym, refl, ap, ◌∙◌, subst, inl, inr, ⊎_elim}
 use lib.Bits.{bit_and, bit_or, bit_xor}
 use Rattle.marks.specs.declared.Mark.{Mark}
 use Rattle.marks.specs.declared.Mark.TheVariants.{Held, Unheld}
@@ -17,18 +17,17 @@ use Rattle.isa.specs.declared.Instruction.TheVariants as i
 use Rattle.buses.specs.Cells.{Cell, Cells, absent, plain, board, read_cell, write_cell, put_at}
 use Rattle.buses.specs.Cells as bus
 use Rattle.units.specs.declared.unit.Reply.{Reply}
-use Rattle.units.specs.declared.unit.Status.{Status}
 use Rattle.units.specs.Laws.{ContentsBy, OperandsBy, FlagsBy, OutcomeBy}
 use Rattle.units.specs.Meaning.{Contents, Operands, operands}
 use Rattle.cpu.specs.declared.state.Core.{Core}
 use Rattle.cpu.specs.declared.state.Mode.TheVariants.{Waiting, Ended}
 use Rattle.cpu.specs.Faults.{Stop, Layer, stop, of_core, of_bus, of_unit, from, and_then}
-use Rattle.cpu.specs.Instructions.{Service, marked, above, below, has_flag, summed, added, subtracted, added_with_carry, subtracted_with_carry, amount_added, amount_subtracted, combined, complemented, operated, steered, number_in, read_from, written_to, loaded, stored, stepped, status_byte, status_of, pushed, top, risen, popped, status_popped, branched, called, returned, enabled_read, enabled_set, pairs_copied, resumed, clears_line, line_cleared, ordered, said_by, flagged, extended, replied}
-use Rattle.cpu.specs.State.{State, register, with_register, with_registers, with_status, with_pc, with_sp, with_enabled, with_handling, with_latched, with_mode}
+use Rattle.cpu.specs.Instructions.{Service, marked, above, below, has_flag, summed, combined, operated, steered, number_in, read_from, written_to, loaded, stored, stepped, status_byte, status_of, pushed, top, risen, popped, status_popped, branched, called, returned, enabled_read, enabled_set, pairs_copied, resumed, clears_line, line_cleared, ordered, flagged, replied}
+use Rattle.cpu.specs.State.{State, register, with_register, with_registers, with_status, with_pc, with_sp, with_enabled, with_handling, with_mode}
 use Rattle.cpu.specs.Steps.{Effect, over, leaves, on_core, or_core, or_both, effect}
 use Rattle.terminal.specs.Relations.{StatusBy, CoreBy, CellBy, CellsBy, StateBy}
-use Rattle.terminal.proofs.Cores.{registers_by, status_by, pc_by, sp_by, enabled_by, vectors_by, latched_by, saved_by, mode_by, handling_by, pairs_by, register_by, put_by}
-use Rattle.terminal.proofs.Follow.{Through, Same, Follows, then_follows, apart, gate, steered_by}
+use Rattle.terminal.proofs.Cores.{registers_by, status_by, pc_by, sp_by, enabled_by, vectors_by, latched_by, mode_by, handling_by, pairs_by, register_by, put_by}
+use Rattle.terminal.proofs.Follow.{Through, Same, Follows, then_follows, apart, steered_by}
 
 -- a unit whose answers are in relation where its uses are
 abbrev pub Serves : Rel Marked → Service → Type 0

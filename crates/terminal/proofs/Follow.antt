@@ -1,12 +1,10 @@
 -- One relation serves both theorems: what the first machine does, the second follows, unless the first stops over a held byte. Assumes nothing.
 use Rattle.std.proofs.Common.{◌≡◌, ℕ, Bool, true, false, cond, ◌⊎◌, List, [], ◌∷◌, Some, None, Ok, Err, Option, Result, sym, refl, ap, ◌∙◌, subst, inl, inr, ⊎_elim, arith}
-use Rattle.marks.specs.declared.Mark.{Mark}
-use Rattle.marks.specs.declared.Mark.TheVariants.{Held, Unheld}
 use Rattle.marks.specs.declared.Marked.{Marked}
 use Rattle.marks.specs.Marks.{held, unheld}
 use Rattle.marks.specs.Relations.{Rel, Alike, SameByte, Clear, Bare, Pointwise, All}
-use Rattle.units.specs.Laws.{Keeps, Quiet, IdleMarks, Clean, ContentsBy, OperandsBy, ReplyBy, FlagsBy, FlagsAll, OutcomeBy}
-use Rattle.units.specs.Meaning.{Contents, Operands, Meaning}
+use Rattle.units.specs.Laws.{Keeps, Quiet, IdleMarks, Clean, FlagsBy, FlagsAll}
+use Rattle.units.specs.Meaning.{Meaning}
 use Rattle.units.specs.Plans.{worked_out}
 use Rattle.units.specs.Planned as planned
 use Rattle.cpu.specs.Faults.{Stop, stop, of_core, and_then}

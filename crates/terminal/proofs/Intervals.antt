@@ -1,5 +1,5 @@
 -- An interval whose cells were checked has plain cells only. Assumes nothing.
-use Rattle.std.proofs.Common.{◌≡◌, ℕ, zero, suc, ◌+◌, ◌%◌, ◌<◌, get_or, Ok, Err, Result, sym, refl, ap, ◌∙◌, subst, arith}
+use Rattle.std.proofs.Common.{◌≡◌, ℕ, zero, suc, ◌+◌, ◌%◌, ◌<◌, get_or, Ok, Err, Result, refl, ap, ◌∙◌, arith}
 use Rattle.marks.specs.declared.Marked.{Marked}
 use Rattle.buses.specs.Cells.{Cell, Cells, absent, plain, board, write_cell, put_at, settled}
 use Rattle.buses.specs.Cells as bus

@@ -1,9 +1,7 @@
 -- Terminals in relation answer each call alike, unless the first is refused or stopped over a held byte. Assumes nothing.
-use Rattle.std.proofs.Common.{◌≡◌, ℕ, zero, suc, ◌+◌, ◌*◌, ◌%◌, ◌^◌, ◌<◌, Bool, true, false, cond, not, ◌||◌, T, eqb, ltb, leb, ◌⊎◌, List, [], ◌∷◌, length, get_or, Ok, Err, Result, sym, refl, ap, ◌∙◌, subst, inl, inr, ⊎_elim, arith, eqb→eq}
+use Rattle.std.proofs.Common.{◌≡◌, ℕ, ◌+◌, ◌*◌, ◌%◌, ◌^◌, ◌<◌, Bool, true, false, cond, not, ◌||◌, T, eqb, ltb, leb, ◌⊎◌, List, [], ◌∷◌, length, get_or, Ok, Err, Result, sym, refl, ap, ◌∙◌, subst, inl, inr, ⊎_elim, arith, eqb→eq}
 use lib.Bits.{bit_or}
 use lib.Dec.{nleb→lt}
-use Rattle.marks.specs.declared.Mark.{Mark}
-use Rattle.marks.specs.declared.Mark.TheVariants.{Held, Unheld}
 use Rattle.marks.specs.declared.Marked.{Marked}
 use Rattle.marks.specs.Marks.{held, unheld}
 use Rattle.marks.specs.Relations.{Rel, All}
@@ -11,7 +9,7 @@ use Rattle.buses.specs.Cells.{Cell, Cells, absent, plain, board, read_cell, writ
 use Rattle.cpu.specs.declared.state.Core.{Core}
 use Rattle.cpu.specs.declared.state.Mode.{Mode}
 use Rattle.cpu.specs.declared.state.Mode.TheVariants.{Going}
-use Rattle.cpu.specs.Instructions.{Service, above, marked, status_byte}
+use Rattle.cpu.specs.Instructions.{Service, marked, status_byte}
 use Rattle.cpu.specs.Runs as runs
 use Rattle.cpu.specs.Runs.{Ran}
 use Rattle.cpu.specs.State as state
@@ -20,15 +18,15 @@ use Rattle.terminal.specs.declared.interval.Interval.{Interval}
 use Rattle.terminal.specs.declared.interval.Seal.{Seal}
 use Rattle.terminal.specs.Calls.{Call, load, start, raise, run, put, opening, entry, close, cell, register, status, Answer, done, opened, ran, byte, stands, refused, unclosed, changes, tells, opens, closes, respond}
 use Rattle.terminal.specs.Calls as calls
-use Rattle.terminal.specs.Relations.{CoreBy, CellBy, CellsBy, StateBy, TerminalBy}
+use Rattle.terminal.specs.Relations.{CoreBy, CellBy, CellsBy, TerminalBy}
 use Rattle.terminal.specs.Terminals as does
 use Rattle.terminal.specs.Terminals.{Terminal, with_core, with_cells, unless, and_then, outside, addresses, cells_of, is_plain, checked, mark_of, cells_written, cells_entered, shown}
-use Rattle.terminal.specs.Theorems.{byte_in, held_ending, over_held}
+use Rattle.terminal.specs.Theorems.{byte_in, over_held}
 use Rattle.terminal.proofs.Cores.{cleared_by, pc_by, mode_by, handling_by, latched_by, register_by}
 use Rattle.terminal.proofs.Effects.{Serves, binary, put_cell}
 use Rattle.terminal.proofs.Follow.{Through, Same, apart}
 use Rattle.terminal.proofs.Intervals.{checked_plain}
-use Rattle.terminal.proofs.Runs.{RanBy, RunFollows, run_by}
+use Rattle.terminal.proofs.Runs.{RunFollows, run_by}
 
 -- answers that hand out no interval
 abbrev pub is_plain_answer : Answer → Bool

@@ -1,5 +1,5 @@
 -- Machines in relation make steps and runs in relation, unless the first stops over a held byte. Assumes nothing.
-use Rattle.std.proofs.Common.{◌≡◌, ℕ, zero, suc, ◌+◌, ◌*◌, ◌%◌, Bool, true, false, cond, ◌⊎◌, List, get_or, Some, None, Ok, Err, Option, Result, sym, refl, ap, ◌∙◌, subst, inl, inr, ⊎_elim}
+use Rattle.std.proofs.Common.{◌≡◌, ℕ, zero, suc, ◌+◌, ◌*◌, ◌%◌, Bool, true, false, cond, ◌⊎◌, List, get_or, Some, None, Ok, Err, Option, Result, sym, refl, ap, subst, inl, inr}
 use lib.Bits.{bit_and}
 use Rattle.marks.specs.declared.Marked.{Marked}
 use Rattle.marks.specs.Relations.{Rel, Pointwise}
@@ -9,13 +9,13 @@ use Rattle.cpu.specs.declared.state.Core.{Core}
 use Rattle.cpu.specs.declared.state.Mode.{Mode}
 use Rattle.cpu.specs.declared.state.Mode.TheVariants.{Going, Faulted}
 use Rattle.cpu.specs.declared.state.Saved.{Saved}
-use Rattle.cpu.specs.Faults.{Stop, Fault}
+use Rattle.cpu.specs.Faults.{Stop}
 use Rattle.cpu.specs.Instructions.{Service, pairs_copied}
 use Rattle.cpu.specs.Interrupts.{lowest, due, taken}
-use Rattle.cpu.specs.Runs.{Ending, said, ended, spent, waiting, fault, Ran, ran, afterwards, is_ended, onward, run}
-use Rattle.cpu.specs.State.{State, with_pc, with_saved, with_mode, with_handling}
+use Rattle.cpu.specs.Runs.{ended, Ran, ran, afterwards, is_ended, onward, run}
+use Rattle.cpu.specs.State.{State, with_pc, with_saved, with_mode}
 use Rattle.cpu.specs.Steps.{Effect, over, effect, advanced, cycles_of, fetched, Told, made, waits, faults, Stepped, ending, performed, is_waiting, step_by, step}
-use Rattle.terminal.specs.Relations.{SavedBy, CoreBy, CellsBy, StateBy}
+use Rattle.terminal.specs.Relations.{CoreBy, StateBy}
 use Rattle.terminal.specs.Theorems.{held_stop, held_ending}
 use Rattle.terminal.proofs.Cores.{pc_by, saved_by, mode_by, handling_by, pairs_by}
 use Rattle.terminal.proofs.Effects.{Serves, EffectBy, effect_by}

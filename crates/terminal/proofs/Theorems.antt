@@ -1,24 +1,22 @@
 -- Noninterference and transparency. Assumes nothing.
-use Rattle.std.proofs.Common.{◌≡◌, ℕ, zero, suc, Bool, true, false, cond, T, eqb, ◌⊎◌, List, [], ◌∷◌, map, replicate, Ok, Err, Result, sym, refl, ap, ◌∙◌, subst, inl, inr, ⊎_elim, arith, eqb→eq}
+use Rattle.std.proofs.Common.{◌≡◌, ℕ, zero, suc, Bool, true, false, cond, T, eqb, List, [], ◌∷◌, map, replicate, Ok, Err, Result, sym, refl, ap, ◌∙◌, subst, inl, inr, ⊎_elim, eqb→eq}
 use lib.Dec.{eqb_refl}
 use Rattle.marks.specs.declared.Marked.{Marked}
 use Rattle.marks.specs.Marks.{held, unheld}
 use Rattle.marks.specs.Relations.{Rel, Alike, Bare, Pointwise, All}
 use Rattle.buses.specs.Cells.{Cell, Cells, absent, plain, board}
 use Rattle.units.specs.Laws.{Keeps, Quiet, IdleMarks, Clean, ContentsBy, OutcomeBy}
-use Rattle.units.specs.Meaning.{Contents, Meaning, Operands, fresh}
-use Rattle.cpu.specs.Instructions.{Service, served, marked}
-use Rattle.terminal.specs.declared.interval.Interval.{Interval}
+use Rattle.units.specs.Meaning.{Contents, Meaning, fresh}
+use Rattle.cpu.specs.Instructions.{served}
 use Rattle.terminal.specs.declared.interval.Seal.{Seal}
-use Rattle.terminal.specs.declared.interval.Seal.TheVariants.{Sealed, Practice}
+use Rattle.terminal.specs.declared.interval.Seal.TheVariants.{Practice}
 use Rattle.terminal.specs.Calls.{Call, load, start, raise, run, put, opening, entry, close, cell, register, status, Answer, done, opened, ran, byte, stands, refused, unclosed, closes, respond, performed}
-use Rattle.terminal.specs.Relations.{CellBy, CellsBy, StateBy, TerminalBy}
-use Rattle.terminal.specs.Responses.{made}
-use Rattle.terminal.specs.Terminals.{Terminal, addresses, and_then, cells_of, checked, lifted, mark_of, with_cells}
-use Rattle.terminal.specs.Theorems.{Any, LaysOpen, MadeAlike, MadeBare, NeverLaysOpen, Noninterference, SealedEntries, Transparency, Twin, byte_in, over_held, practice, practised, unsealed}
+use Rattle.terminal.specs.Relations.{CellBy, CellsBy, TerminalBy}
+use Rattle.terminal.specs.Terminals.{Terminal, and_then, cells_of, checked, lifted, mark_of, with_cells}
+use Rattle.terminal.specs.Theorems.{Any, LaysOpen, NeverLaysOpen, Noninterference, Transparency, Twin, byte_in, over_held, practised, unsealed}
 use Rattle.terminal.proofs.Cores.{cleared_by}
 use Rattle.terminal.proofs.Effects.{Serves}
-use Rattle.terminal.proofs.Follow.{Through, Same, alike_keeps, alike_through, apart, bare_keeps, bare_through}
+use Rattle.terminal.proofs.Follow.{Same, alike_keeps, alike_through, apart, bare_keeps, bare_through}
 use Rattle.terminal.proofs.Responding.{RespondBy, is_plain_answer, true_is, load_by, start_by, raise_by, cell_by, register_told, status_told, run_told, put_by, open_by, entry_by, close_by}
 
 -- what a unit keeps, its service keeps

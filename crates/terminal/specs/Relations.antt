@@ -1,5 +1,5 @@
 -- Two terminals compared part by part, marked bytes by a relation. Assumes nothing.
-use Rattle.std.specs.Prelude.{◌≡◌, ℕ, List}
+use Rattle.std.specs.Prelude.{◌≡◌, ℕ}
 use Rattle.marks.specs.declared.Marked.{Marked}
 use Rattle.marks.specs.Relations.{Rel, Pointwise}
 use Rattle.buses.specs.Cells.{Cell, Cells, absent, plain, board}

@@ -1,5 +1,5 @@
 -- Noninterference and transparency, over lists of calls. Assumes nothing.
-use Rattle.std.specs.Prelude.{◌≡◌, ℕ, Bool, true, false, ◌||◌, ◌⊎◌, List, [], ◌∷◌, map, ◌==◌, ◌≢◌}
+use Rattle.std.specs.Prelude.{◌≡◌, ℕ, Bool, false, ◌||◌, ◌⊎◌, List, [], ◌∷◌, map, ◌==◌, ◌≢◌}
 use Rattle.marks.specs.Relations.{Alike, Bare, Pointwise, All}
 use Rattle.buses.specs.Cells.{Cell, Cells, absent, plain, board}
 use Rattle.units.specs.Laws.{ContentsBy}

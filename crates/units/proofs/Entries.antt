@@ -1,5 +1,5 @@
 -- A table whose entries are computed from their rule. Assumes nothing.
-use Rattle.std.proofs.Common.{◌≡◌, ℕ, zero, suc, ◌+◌, ◌<◌, List, [], ◌∷◌, get_or, sym, refl, ap, ◌∙◌, arith}
+use Rattle.std.proofs.Common.{◌≡◌, ℕ, zero, suc, ◌+◌, ◌<◌, List, [], ◌∷◌, get_or, ap, ◌∙◌, arith}
 
 -- n values of f, from i on
 abbrev pub tabulated : (ℕ → ℕ) → ℕ → ℕ → List ℕ

@@ -1,9 +1,7 @@
 -- The field's distributive law, and what mixing makes of it. Assumes nothing.
-use Rattle.std.proofs.Common.{◌≡◌, ℕ, zero, suc, ◌+◌, ◌*◌, ◌/◌, ◌%◌, ◌^◌, ◌<◌, ◌≤◌, Bool, true, false, cond, eqb, ltb, sym, refl, ap, ◌∙◌, subst, arith, rules}
-use lib.Bits.{bit_xor, xor_assoc, xor_comm, xor_zero_l, xor_zero_r, xor_self, xor_mod, xor_shr, xor_block, xor_lt}
-use Rattle.units.specs.Columns.{mix_row, unmix_row}
+use Rattle.std.proofs.Common.{◌≡◌, ℕ, zero, suc, ◌+◌, ◌*◌, ◌/◌, ◌%◌, ◌<◌, ◌≤◌, Bool, true, false, cond, eqb, ltb, sym, refl, ap, ◌∙◌, subst, arith, rules}
+use lib.Bits.{bit_xor, xor_assoc, xor_comm, xor_zero_r, xor_mod, xor_shr, xor_block, xor_lt}
 use Rattle.units.specs.Field.{by_lowest_bit, doubled, product, product_of}
-use Rattle.units.proofs.Entries.{entry}
 
 -- two sums, regrouped
 pub swap : (a b c d : ℕ) → bit_xor (bit_xor a b) (bit_xor c d) ≡ bit_xor (bit_xor a c) (bit_xor b d)

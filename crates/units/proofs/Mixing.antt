@@ -1,5 +1,5 @@
 -- Mixing a column back undoes mixing it. Assumes nothing.
-use Rattle.std.proofs.Common.{◌≡◌, ℕ, ◌<◌, sym, refl, ap, ◌∙◌, arith}
+use Rattle.std.proofs.Common.{◌≡◌, ℕ, ◌<◌, sym, ap, ◌∙◌, arith}
 use lib.Bits.{bit_xor, xor_zero_l, xor_zero_r}
 use Rattle.units.specs.Columns.{mix_row, unmix_row}
 use Rattle.units.specs.Field.{product}

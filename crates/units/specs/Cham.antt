@@ -4,8 +4,8 @@ use Rattle.marks.specs.declared.Marked.{Marked}
 use Rattle.marks.specs.Marks.{unheld}
 use Rattle.units.specs.declared.unit.Reply.{Reply}
 use Rattle.units.specs.declared.cham.Cham.{Cham}
-use Rattle.units.specs.Meaning.{Contents, Operands, Meaning}
-use Rattle.units.specs.Plans.{Place, cell, from_a, from_b, Source, copy, work, Plan, worked_out, carried_out, planned}
+use Rattle.units.specs.Meaning.{Contents, Meaning}
+use Rattle.units.specs.Plans.{cell, from_a, from_b, Source, copy, work, Plan, worked_out, carried_out, planned}
 
 -- code 4
 abbrev pub cham_codes : ℕ → Bool

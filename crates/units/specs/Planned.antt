@@ -1,13 +1,13 @@
 -- A unit that works by a plan keeps the three laws. Assumes nothing.
-use Rattle.std.specs.Prelude.{◌≡◌, ℕ, zero, suc, Bool, true, false, List, [], ◌∷◌, map, slice_index_or, refl}
-use Rattle.std.proofs.Common.{sym, ap, subst, ◌∙◌, arith}
+use Rattle.std.specs.Prelude.{◌≡◌, ℕ, zero, suc, false, List, [], ◌∷◌, map, slice_index_or, refl}
+use Rattle.std.proofs.Common.{ap, subst, arith}
 use Rattle.marks.specs.declared.Mark.{Mark}
 use Rattle.marks.specs.declared.Mark.TheVariants.{Held, Unheld}
 use Rattle.marks.specs.declared.Marked.{Marked}
 use Rattle.marks.specs.Marks.{held, join, unheld}
 use Rattle.marks.specs.Relations.{Rel, Alike, SameByte, Clear, Pointwise, All}
 use Rattle.units.specs.Meaning.{Contents, Operands}
-use Rattle.units.specs.Laws.{ContentsBy, OperandsBy, OutcomeBy, Keeps, Quiet, IdleMarks, Clean}
+use Rattle.units.specs.Laws.{OperandsBy, OutcomeBy, Keeps, Quiet, IdleMarks, Clean}
 use Rattle.units.specs.Plans.{joined, worked_out, Place, cell, from_a, from_b, Source, copy, work, Plan, taken, made, carried_out, planned}
 
 -- a relation that working out keeps

@@ -1,4 +1,4 @@
-use Rattle.std.proofs.Common.{sym, ap, ◌∙◌, rules}
+use Rattle.std.proofs.Common.{ap, ◌∙◌, rules}
 use Rattle.isa.proofs.RoundTrip.{back}
 use Rattle.isa.specs.Laws.{reread}
 use Rattle.isa.proofs.encode.Goals as goal

@@ -1,6 +1,5 @@
 -- One pair more. Assumes nothing.
 use Rattle.std.proofs.Common.{◌≡◌, ℕ, suc, ◌+◌, get_or, set, refl, ap, ◌∙◌, arith}
-use Rattle.marks.specs.declared.Marked.{Marked}
 use Rattle.marks.specs.Marks.{unheld}
 use Rattle.cpu.specs.Instructions.{pairs_copied}
 use Rattle.cpu.proofs.interrupts.copy_pairs.Goals as goal

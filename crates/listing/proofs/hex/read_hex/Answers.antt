@@ -1,7 +1,7 @@
-use Rattle.std.proofs.Common.{◌≡◌, ◌+◌, ◌-◌, [], ◌∷◌, length, get_or, drop, Ok, Err, vec_items, sym, refl, ap, ◌∙◌, subst, append-nil, arith}
+use Rattle.std.proofs.Common.{◌+◌, ◌-◌, [], length, drop, Ok, Err, vec_items, sym, ap, ◌∙◌, subst, append-nil, arith}
 use Rattle.std.proofs.lemmas.List.{at_drop_more, at_drop_all}
 use Rattle.std.proofs.lemmas.Result.{err_from_is_err_and}
-use Rattle.listing.specs.Hex.{ReadAs, read_hex, before, paired}
+use Rattle.listing.specs.Hex.{ReadAs, before, paired}
 use Rattle.listing.specs.Reader.{resumed}
 use Rattle.listing.proofs.Reading.{fault_settles}
 use Rattle.listing.proofs.hex.read_hex.Goals as goal

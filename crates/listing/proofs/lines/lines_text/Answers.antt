@@ -1,4 +1,4 @@
-use Rattle.std.proofs.Common.{◌≡◌, string_bytes, ap, ◌∙◌, arith}
+use Rattle.std.proofs.Common.{string_bytes, ap, ◌∙◌, arith}
 use Rattle.std.proofs.lemmas.List.{take_all}
 use Rattle.listing.specs.Lines.{lines_text}
 use Rattle.listing.proofs.Listing.{text_more}

@@ -1,4 +1,4 @@
-use Rattle.std.proofs.Common.{◌≡◌, length, IfOk, string_bytes, ap, ◌∙◌, subst}
+use Rattle.std.proofs.Common.{◌≡◌, length, IfOk, string_bytes, ◌∙◌, subst}
 use Rattle.listing.specs.Lines.{counted_text}
 use Rattle.listing.proofs.lines.listing_text.Goals as goal
 

@@ -1,4 +1,4 @@
-use Rattle.std.proofs.Common.{◌≡◌, List, ◌++◌, IfOk, string_bytes, codes, subst}
+use Rattle.std.proofs.Common.{◌≡◌, ◌++◌, IfOk, string_bytes, codes, subst}
 use Rattle.script.specs.Text.{hex_text}
 use Rattle.script.proofs.answers.standing_text.Goals as goal
 

@@ -1,5 +1,5 @@
 -- A cell of an interval that was checked is plain, and takes every byte. Assumes nothing.
-use Rattle.std.proofs.Common.{◌≡◌, ℕ, ◌+◌, ◌%◌, get_or, Ok, sym, ap, ◌∙◌, subst, arith}
+use Rattle.std.proofs.Common.{◌≡◌, ℕ, ◌+◌, ◌%◌, Ok, sym, ap, ◌∙◌, subst, arith}
 use Rattle.buses.specs.Cells.{write_cell}
 use Rattle.terminal.specs.Terminals.{is_plain, left, told}
 use Rattle.terminal.proofs.Intervals.{checked_plain, entered_is, offset_cell, plain_takes, written_left, written_told}

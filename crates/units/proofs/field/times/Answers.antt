@@ -1,4 +1,4 @@
-use Rattle.std.proofs.Common.{◌≡◌, ℕ, suc, ◌+◌, ◌-◌, ◌/◌, sym, refl, ap, ◌∙◌, arith}
+use Rattle.std.proofs.Common.{◌≡◌, suc, ◌+◌, ◌-◌, ◌/◌, sym, ap, ◌∙◌, arith}
 use lib.Bits.{bit_xor, xor_assoc, xor_zero_l, xor_zero_r}
 use Rattle.units.specs.Field.{by_lowest_bit, doubled, product, product_of}
 use Rattle.units.proofs.field.times.Goals as goal

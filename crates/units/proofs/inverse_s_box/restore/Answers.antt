@@ -1,4 +1,4 @@
-use Rattle.std.proofs.Common.{◌≡◌, ap, ◌∙◌}
+use Rattle.std.proofs.Common.{ap, ◌∙◌}
 use Rattle.units.specs.Field.{inverse}
 use Rattle.units.specs.Sbox.{affine, substituted, restored}
 use Rattle.units.proofs.Boxes.{substituted_restored}

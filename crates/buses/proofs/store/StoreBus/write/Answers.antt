@@ -1,4 +1,4 @@
-use Rattle.std.proofs.Common.{◌≡◌, ◌<◌, length, set, refl, ap, ◌∙◌, rules}
+use Rattle.std.proofs.Common.{◌≡◌, ◌<◌, length, set, refl, ◌∙◌, rules}
 use Rattle.buses.specs.Memories.{store_cells}
 use Rattle.buses.proofs.Alone.{write_laws}
 use Rattle.buses.proofs.Stores.{written, takes}

@@ -1,5 +1,5 @@
 -- Each way out of the loop, and each way round it. Assumes nothing.
-use Rattle.std.proofs.Common.{◌≡◌, ℕ, ◌+◌, ◌-◌, true, false, Some, None, vec_items, sym, refl, ap, ◌∙◌, arith, rules}
+use Rattle.std.proofs.Common.{◌≡◌, ℕ, ◌+◌, ◌-◌, true, false, Some, None, vec_items, sym, ap, ◌∙◌, arith, rules}
 use Rattle.cpu.specs.Instructions.{served}
 use Rattle.cpu.specs.Machines.{state_of, fault_of}
 use Rattle.cpu.specs.Runs.{run, spent, afterwards, is_ended}

@@ -1,4 +1,4 @@
-use Rattle.std.proofs.Common.{◌≡◌, ℕ, ◌-◌, List, ◌∷◌, length, None, vec_items, sym, refl, ap, ◌∙◌}
+use Rattle.std.proofs.Common.{◌-◌, ◌∷◌, length, None, vec_items, sym, refl, ap, ◌∙◌}
 use Rattle.std.proofs.lemmas.Result.{err_from_is_err_and}
 use Rattle.listing.specs.Hex.{paired, before}
 use Rattle.listing.proofs.Reading.{second}

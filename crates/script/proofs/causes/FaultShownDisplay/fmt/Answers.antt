@@ -1,4 +1,4 @@
-use Rattle.std.proofs.Common.{◌≡◌, sym, ap, ◌∙◌, subst}
+use Rattle.std.proofs.Common.{sym, ap, ◌∙◌, subst}
 use Rattle.std.specs.Fmt.{HasWritten}
 use Rattle.cpu.specs.Faults.{of_bus, stop, stop_of}
 use Rattle.script.specs.Answers.{stop_text}

@@ -1,4 +1,4 @@
-use Rattle.std.proofs.Common.{◌≡◌, ℕ, ◌/◌, ◌%◌, [], ◌∷◌, ◌++◌, refl, ap, ◌∙◌, subst, arith}
+use Rattle.std.proofs.Common.{◌/◌, ◌%◌, ◌∷◌, ◌++◌, refl, subst, arith}
 use Rattle.std.specs.Fmt.{HasWritten}
 use Rattle.script.proofs.WrittenHex.{digit}
 use Rattle.script.proofs.text.HexPlaceDisplay.fmt.Goals as goal
