@@ -1,15 +1,11 @@
 // hokster list FILE: lists the instructions of a program. hokster play FILE: plays a script of calls.
 #![tactic(auto)]
 
-mod failure;
-mod names;
-mod play;
-mod reading;
-
-use failure::Failure;
 use listing::faults::fault_text;
 use listing::hex::read_hex;
 use listing::lines::listing_text;
+use player::failure::Failure;
+use player::play::play;
 use std::io::Read;
 use std::process::ExitCode;
 use std::{env, fs};
@@ -54,7 +50,7 @@ fn play_file(rt: &HostRuntime, path: &str) -> Result<(), Failure> {
     } else {
         file(rt, path)?
     };
-    play::play(rt, text.as_slice())
+    play(rt, text.as_slice())
 }
 
 // Does what the arguments ask for.

@@ -26,8 +26,8 @@ second bs first at c v cs e =
     ∙ ap (λ n. before (bs ++ more) (paired n None cs)) room
 
 -- a character outside comments that is no blank, no line end and no # counts
-pub counts : (inComment : Bool) (at c : ℕ) (cs : List ℕ) → inComment ≡ false → (c ≡ 10 → ⊥) → is_blank c ≡ false → (c ≡ 35 → ⊥) → counted inComment at (c ∷ cs) ≡ (at, c) ∷ counted false (at + 1) cs
-counts inComment at c cs out line blank hash = search rules
+pub counts : (in_comment : Bool) (at c : ℕ) (cs : List ℕ) → in_comment ≡ false → (c ≡ 10 → ⊥) → is_blank c ≡ false → (c ≡ 35 → ⊥) → counted in_comment at (c ∷ cs) ≡ (at, c) ∷ counted false (at + 1) cs
+counts in_comment at c cs out line blank hash = search rules
 
 -- a fault at one character is the text's
 pub fault_settles : (e : Fault) (said later : Result (List ℕ) Fault) → Settles (Err e) said later → ReadAs (Err e) said

@@ -12,10 +12,10 @@ is_blank c = c == 32 || (c == 9 || c == 13)
 
 -- the characters that count, each with its offset: a comment goes from # (35) to the end of its line (10)
 abbrev pub counted : Bool → ℕ → List ℕ → List (ℕ × ℕ)
-counted inComment at [] = []
-counted inComment at (c ∷ cs) =
+counted in_comment at [] = []
+counted in_comment at (c ∷ cs) =
     cond (c == 10) (counted false (at + 1) cs)
-    (cond (inComment || is_blank c) (counted inComment (at + 1) cs)
+    (cond (in_comment || is_blank c) (counted in_comment (at + 1) cs)
     (cond (c == 35) (counted true (at + 1) cs)
     ((at, c) ∷ counted false (at + 1) cs)))
 

@@ -1,8 +1,8 @@
 // What stopped an instruction, as text.
 ghost use Rattle.std.specs.Prelude.{◌≡◌, Some};
-ghost use Rattle.buses.specs.Numbers.{number as busNumberOf};
-ghost use Rattle.isa.specs.Numbers.{number as wordNumberOf};
-ghost use Rattle.units.specs.Numbers.{number as unitNumberOf};
+ghost use Rattle.buses.specs.Numbers.{number as bus_number};
+ghost use Rattle.isa.specs.Numbers.{number as word_number};
+ghost use Rattle.units.specs.Numbers.{number as unit_number};
 ghost use Rattle.cpu.specs.Faults.{stop_of};
 ghost use Rattle.script.specs.Answers.{stop_text};
 
@@ -11,7 +11,7 @@ use cpu::faults::{Cause, Fault};
 use std::fmt;
 
 fn word_number(refusal: isa::Refusal) -> u8
-    ensures { result ≡ wordNumberOf refusal }
+    ensures { result ≡ word_number refusal }
 {
     match refusal {
         isa::Refusal::OperandOutOfField => 10,
@@ -21,7 +21,7 @@ fn word_number(refusal: isa::Refusal) -> u8
 }
 
 fn bus_number(refusal: buses::bus::Refusal) -> u8
-    ensures { result ≡ busNumberOf refusal }
+    ensures { result ≡ bus_number refusal }
 {
     match refusal {
         buses::bus::Refusal::UnfitMemories => 9,
@@ -31,7 +31,7 @@ fn bus_number(refusal: buses::bus::Refusal) -> u8
 }
 
 fn unit_number(refusal: units::unit::Refusal) -> u8
-    ensures { result ≡ unitNumberOf refusal }
+    ensures { result ≡ unit_number refusal }
 {
     match refusal {
         units::unit::Refusal::LackingCode => 26,

@@ -7,7 +7,7 @@ use Rattle.cpu.specs.Instructions.{served}
 use Rattle.cpu.specs.Machines.{state_of, ending_of}
 use Rattle.cpu.specs.State.{cleared}
 use Rattle.terminal.specs.declared.Terminal as code
-use Rattle.terminal.specs.declared.calls.Answer as code-answer
+use Rattle.terminal.specs.declared.calls.Answer as code_answer
 use Rattle.terminal.specs.declared.calls.Answer.TheVariants as answer
 use Rattle.terminal.specs.declared.calls.Call as code_call
 use Rattle.terminal.specs.declared.calls.Call.TheVariants as call
@@ -49,7 +49,7 @@ ran_of (Err e) = refused (number e)
 abbrev pub stands_of : Standing → Answer
 stands_of s = stands s.mode s.pc s.sp s.enabled s.latched s.handling
 
-abbrev pub answer_of : code-answer.Answer → Answer
+abbrev pub answer_of : code_answer.Answer → Answer
 answer_of answer.Done = done
 answer_of (answer.Opened i) = opened i
 answer_of (answer.Ran r) = run_of r

@@ -1,5 +1,8 @@
 -- The AES unit. Assumes nothing.
-use Rattle.std.specs.Prelude.{ℕ, ◌+◌, Bool, cond, List, [], ◌∷◌, ◌++◌, map, None, ◌==◌, nat_lt, slice_index}
+use Rattle.std.specs.Prelude.{◌≡◌, ℕ, ◌+◌, ◌<◌, Bool, true, cond, List, [], ◌∷◌, ◌++◌, map, None, ◌==◌, nat_lt, slice_index}
+use Rattle.std.proofs.Common.{lit<}
+use Rattle.std.proofs.Math.Nat.{lt_trans}
+use Rattle.std.proofs.lemmas.Bool.{ltb-true}
 use Rattle.marks.specs.declared.Marked.{Marked}
 use Rattle.marks.specs.Marks.{unheld}
 use Rattle.units.specs.declared.aes.Aes.{Aes}
@@ -15,6 +18,10 @@ use Rattle.units.specs.Sbox.{substituted, restored}
 -- codes 0 to 3
 abbrev pub aes_codes : ℕ → Bool
 aes_codes k = nat_lt k 4
+
+-- a code has four bits
+pub aes_few : (k : ℕ) → aes_codes k ≡ true → k < 16
+aes_few k h = lt_trans (ltb-true k 4 h) (lit< tt)
 
 -- the stages of amc and aic, and four bytes of each
 abbrev pub aes_contents : Aes → Contents

@@ -1,5 +1,7 @@
 -- The CHAM unit. Assumes nothing.
-use Rattle.std.specs.Prelude.{ℕ, ◌+◌, ◌-◌, ◌*◌, ◌/◌, ◌%◌, ◌^◌, Bool, cond, List, [], ◌∷◌, ◌==◌, bit_or, slice_index, slice_index_or}
+use Rattle.std.specs.Prelude.{◌≡◌, ℕ, ◌+◌, ◌-◌, ◌*◌, ◌/◌, ◌%◌, ◌^◌, ◌<◌, Bool, true, cond, List, [], ◌∷◌, ◌==◌, bit_or, slice_index, slice_index_or}
+use Rattle.std.proofs.Common.{sym, subst, lit<}
+use Rattle.std.proofs.lemmas.Bool.{eqb-true}
 use Rattle.marks.specs.declared.Marked.{Marked}
 use Rattle.marks.specs.Marks.{unheld}
 use Rattle.units.specs.declared.unit.Reply.{Reply}
@@ -10,6 +12,10 @@ use Rattle.units.specs.Plans.{cell, from_a, from_b, Source, copy, work, Plan, wo
 -- code 4
 abbrev pub cham_codes : ℕ → Bool
 cham_codes k = k == 4
+
+-- a code has four bits
+pub cham_few : (k : ℕ) → cham_codes k ≡ true → k < 16
+cham_few k h = subst (λ n. n < 16) (sym (eqb-true k 4 h)) (lit< tt)
 
 abbrev pub cham_contents : Cham → Contents
 cham_contents s = record { stages = s.stage ∷ []; bytes = s.first ∷ s.second ∷ s.third ∷ s.fourth ∷ [] }

@@ -64,7 +64,8 @@ join_clear_left Held n e = e
 join_clear_left Unheld n e = refl
 
 join_clear_right : (m n : Mark) → held (join m n) ≡ false → held n ≡ false
-join_clear_right Held n e = absurd (let z : ◌≡◌ {A = ℕ} 0 1 = cc in omega arith)
+join_clear_right Held Held e = e
+join_clear_right Held Unheld e = refl
 join_clear_right Unheld n e = e
 
 join_clear : (m n : Mark) → held m ≡ false → held n ≡ false → held (join m n) ≡ false

@@ -1,9 +1,8 @@
 // The AES unit: the S-box, and columns that are mixed and mixed back.
 ghost use Rattle.std.specs.Prelude.{◌≡◌};
 ghost use Rattle.units.specs.Meaning.{fresh};
-ghost use Rattle.units.specs.Aes.{row_of, wait_of, calculated, column_contents, column_reply, column_after, aes_codes, aes_contents, aes_operates, aes_plan};
+ghost use Rattle.units.specs.Aes.{row_of, wait_of, calculated, column_contents, column_reply, column_after, aes_codes, aes_few, aes_contents, aes_operates, aes_plan};
 ghost use Rattle.units.specs.Planned.{planned_quiet, planned_idle, planned_clean};
-ghost use Rattle.std.proofs.Common.{rules};
 
 use super::field::{mix_row, unmix_row};
 use super::inverse_s_box::restore;
@@ -148,7 +147,7 @@ impl Unit for Aes {
 
     ghost clean = { planned_clean aes_plan };
 
-    ghost few = { Prim.search rules };
+    ghost few = { λ _ k h. aes_few k h };
 
     fn operate(
         &mut self,

@@ -1,9 +1,8 @@
 // The CHAM unit: 32 bits turned left.
 ghost use Rattle.std.specs.Prelude.{◌≡◌, [], ◌∷◌};
-ghost use Rattle.units.specs.Cham.{turned_byte, calculated, cham_step, cham_codes, cham_contents, cham_operates, cham_plan};
+ghost use Rattle.units.specs.Cham.{turned_byte, calculated, cham_step, cham_codes, cham_few, cham_contents, cham_operates, cham_plan};
 ghost use Rattle.units.specs.Meaning.{fresh};
 ghost use Rattle.units.specs.Planned.{planned_quiet, planned_idle, planned_clean};
-ghost use Rattle.std.proofs.Common.{rules};
 
 use super::unit::{Refusal, Reply, Status, Unit, answer};
 use marks::Marked;
@@ -124,7 +123,7 @@ impl Unit for Cham {
 
     ghost clean = { planned_clean cham_plan };
 
-    ghost few = { Prim.search rules };
+    ghost few = { λ _ k h. cham_few k h };
 
     fn operate(
         &mut self,

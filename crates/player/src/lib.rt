@@ -1,0 +1,7 @@
+// Playing a script of calls on a new terminal: reading it, making its calls, and writing a line for each answer.
+#![tactic(auto)]
+
+pub mod failure;
+mod names;
+pub mod play;
+mod reading;
