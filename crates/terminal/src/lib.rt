@@ -60,7 +60,7 @@ pub struct Terminal<B, U> {
 impl<B: Bus, U: Unit> Terminal<B, U> {
     // A terminal with 1 saved pair and no program.
     pub fn new(heap: Global, bus: B, unit: U) -> Terminal<B, U>
-        ensures result_value { terminal_of B.Bus.cells U.Unit.contents result ≡ made (B.Bus.cells bus) (U.Unit.contents unit) }
+        ensures made { terminal_of B.Bus.cells U.Unit.contents result ≡ made (B.Bus.cells bus) (U.Unit.contents unit) }
         ensures bus { result.machine.bus ≡ bus }
         ensures unit { result.machine.unit ≡ unit }
     {
