@@ -1,11 +1,11 @@
 // Whole ciphers as programs of the core, run through a terminal's calls.
 use super::failure::Failure;
-use super::tally::Tally;
 use buses::bus::Bus;
 use buses::store::Store;
 use listing::hex::read_hex;
 use std::alloc::Global;
 use std::fs;
+use tally::Tally;
 use terminal::Terminal;
 use terminal::calls::{Answer, Call};
 use terminal::interval::{Interval, Seal};

@@ -3,7 +3,6 @@
 
 mod ciphers;
 mod failure;
-mod tally;
 
 use ciphers::all_ciphers;
 use failure::Failure;

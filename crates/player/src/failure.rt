@@ -1,4 +1,7 @@
 // Why nothing was done.
+ghost use Rattle.std.specs.Prelude.{◌≡◌};
+ghost use Rattle.player.specs.declared.failure.Failure.TheVariants.{NoMemory};
+
 use std::alloc::{AllocError, AllocFailed};
 use std::{fmt, io};
 
@@ -23,12 +26,16 @@ impl fmt::Display for Failure {
 }
 
 impl From<AllocError> for Failure {
+    ghost from_gives = { λ _ failure. failure ≡ NoMemory };
+
     fn from(_error: AllocError) -> Failure {
         Failure::NoMemory
     }
 }
 
 impl<T: Drop> From<AllocFailed<T>> for Failure {
+    ghost from_gives = { λ _ failure. failure ≡ NoMemory };
+
     fn from(_refused: AllocFailed<T>) -> Failure {
         Failure::NoMemory
     }

@@ -1,4 +1,6 @@
 // The intervals of a script that are open, by their names.
+ghost use Rattle.std.specs.Prelude.{◌≡◌, bytes_eq, position};
+
 use terminal::interval::Interval;
 
 #[derive(Drop)]
@@ -8,11 +10,8 @@ pub struct Named {
 }
 
 // Where the interval of a name stands.
-pub fn find(open: &[Named], name: &[u8]) -> Option<usize> {
-    for i in 0..open.len() {
-        if open[i].name.as_slice() == name {
-            return Some(i);
-        }
-    }
-    None
+pub fn find(open: &[Named], name: &[u8]) -> Option<usize>
+    ensures { result ≡ position (λ n. bytes_eq n.name.items name.now) «open».now }
+{
+    open.iter().position(|named| named.name.as_slice() == name)
 }

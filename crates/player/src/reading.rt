@@ -1,6 +1,14 @@
 // A script is read as a whole before any call is made.
+ghost use Rattle.std.specs.Prelude.{◌≡◌, ◌+◌, ◌<◌, ◌^◌, map, MatchResult, if◌then◌else◌};
+ghost use Rattle.script.specs.Lines.{said_of};
+ghost use Rattle.player.specs.Answers.{Fails, Tells, numbered};
+ghost use Rattle.player.specs.Memories.{begun, filled, put_from};
+ghost use Rattle.script.specs.Told.{fault_name};
+ghost use Rattle.player.specs.Scripts.{script_read, sofar, taken, with_line};
+ghost use Rattle.player.specs.Wishes.{asked, usual, wanted_after};
+
 use super::failure::Failure;
-use script::faults::ReadError;
+use script::faults::{Fault, ReadError};
 use script::lines::{Line, is_setting, read_line};
 use script::operands::UnitName;
 use script::told::fault_text;
@@ -30,39 +38,61 @@ pub struct Wanted {
 }
 
 // A line that is wrong beside the others.
-fn wrong(heap: Global, number: usize, what: &str) -> Failure {
+fn wrong(heap: Global, number: usize, what: &str) -> Failure
+    ensures { Tells result number what.now }
+{
     match format!(in heap; "line {number}: {what}") {
         Ok(text) => Failure::Line(text),
         Err(_) => Failure::NoMemory,
     }
 }
 
+// A line that cannot be read.
+fn unread(heap: Global, number: usize, fault: Fault) -> Failure
+    ensures { Tells result number (fault_name fault) }
+{
+    match fault_text(heap, number, fault) {
+        Ok(text) => Failure::Line(text),
+        Err(_) => Failure::NoMemory,
+    }
+}
+
 impl Reading {
+    // Adds a line that says something.
+    fn add(&mut self, heap: Global, line: Line) -> Result<(), Failure>
+        ensures number { self.new.number ≡ self.old.number }
+        ensures added { let said = with_line (sofar self.old) (said_of line) in MatchResult result (λ _. said ≡ Ok (sofar self.new)) (λ e. Fails e said) }
+    {
+        let setting = is_setting(&line);
+        if setting && self.calls {
+            return Err(wrong(heap, self.number, "setting up after a call"));
+        }
+        self.calls = self.calls || !setting;
+        let number = self.number;
+        self.lines.push(Numbered { number, line })?;
+        Ok(())
+    }
+
     // Reads the next line.
-    fn take(&mut self, heap: Global, text: &[u8]) -> Result<(), Failure> {
-        self.number = self.number.saturating_add(1);
+    fn take(&mut self, heap: Global, text: &[u8]) -> Result<(), Failure>
+        requires { self.old.number + 1 < 2 ^ 64 }
+        ensures number { self.new.number ≡ self.old.number + 1 }
+        ensures read { let said = taken (sofar self.old) text.now in MatchResult result (λ _. said ≡ Ok (sofar self.new)) (λ e. Fails e said) }
+    {
+        self.number += 1;
         match read_line(heap, text) {
-            Ok(Some(line)) => {
-                let setting = is_setting(&line);
-                if setting && self.calls {
-                    return Err(wrong(heap, self.number, "setting up after a call"));
-                }
-                self.calls = !setting;
-                let number = self.number;
-                self.lines.push(Numbered { number, line })?;
-                Ok(())
-            }
+            Ok(Some(line)) => self.add(heap, line),
             Ok(None) => Ok(()),
-            Err(ReadError::Wrong(fault)) => {
-                Err(Failure::Line(fault_text(heap, self.number, fault)?))
-            }
+            Err(ReadError::Wrong(fault)) => Err(unread(heap, self.number, fault)),
             Err(ReadError::NoMemory) => Err(Failure::NoMemory),
         }
     }
 }
 
 // The lines that say something, or the first that cannot be read.
-pub fn read_script(heap: Global, text: &[u8]) -> Result<Vec<Numbered>, Failure> {
+pub fn read_script(heap: Global, text: &[u8]) -> Result<Vec<Numbered>, Failure>
+    ensures { let said = script_read text.now in MatchResult result (λ v. said ≡ Ok (map numbered v.items)) (λ e. Fails e said) }
+{
     let mut reading = Reading {
         lines: Vec::new(heap),
         number: 0,
@@ -78,31 +108,74 @@ pub fn read_script(heap: Global, text: &[u8]) -> Result<Vec<Numbered>, Failure> 
         }
     }
     reading.take(heap, line.as_slice())?;
-    let Reading { lines, .. } = reading;
-    Ok(lines)
+    Ok(reading.lines)
+}
+
+// The machine after one line more.
+fn asked(heap: Global, wanted: Wanted, line: &Numbered) -> Result<Wanted, Failure>
+    ensures { let said = asked wanted line.now.number (said_of line.now.line) in MatchResult result (λ w. said ≡ Ok w) (λ e. Fails e said) }
+{
+    let Wanted { cells, page, unit } = wanted;
+    match &line.line {
+        Line::Memory(cells) => {
+            if *cells > 65536 {
+                return Err(wrong(heap, line.number, "memory of over 65536 cells"));
+            }
+            let cells = *cells as usize;
+            Ok(Wanted { cells, page, unit })
+        }
+        Line::Board(page) => {
+            let page = Some(*page);
+            Ok(Wanted { cells, page, unit })
+        }
+        Line::Unit(unit) => {
+            let unit = *unit;
+            Ok(Wanted { cells, page, unit })
+        }
+        _ => Ok(wanted),
+    }
 }
 
 // The machine that the lines ask for.
-pub fn wanted_machine(heap: Global, lines: &[Numbered]) -> Result<Wanted, Failure> {
+pub fn wanted_machine(heap: Global, lines: &[Numbered]) -> Result<Wanted, Failure>
+    ensures { let said = wanted_after usual (map numbered lines.now) in MatchResult result (λ w. said ≡ Ok w) (λ e. Fails e said) }
+{
     let mut wanted = Wanted {
         cells: 65536,
         page: None,
         unit: UnitName::Aes,
     };
-    for numbered in lines {
-        match &numbered.line {
-            Line::Memory(cells) => {
-                if *cells > 65536 {
-                    return Err(wrong(heap, numbered.number, "memory of over 65536 cells"));
-                }
-                wanted.cells = *cells as usize;
-            }
-            Line::Board(page) => wanted.page = Some(*page),
-            Line::Unit(unit) => wanted.unit = *unit,
-            _ => {}
-        }
+    for line in lines {
+        wanted = asked(heap, wanted, line)?;
     }
     Ok(wanted)
+}
+
+// Puts bytes with one mark into the two memories from an address on; false where one lies outside.
+fn put_from(bytes: &mut [u8], marks: &mut [u8], address: u16, values: &[u8], mark: u8) -> bool
+    ensures { (if result then Some (bytes.new, marks.new) else None) ≡ put_from address values.now mark (bytes.old, marks.old) }
+{
+    let mut at = address as usize;
+    for value in values {
+        if at >= bytes.len() || at >= marks.len() {
+            return false;
+        }
+        bytes[at] = *value;
+        marks[at] = mark;
+        at += 1;
+    }
+    true
+}
+
+// Puts the bytes of one line into the two memories; false where one lies outside.
+fn begin(bytes: &mut [u8], marks: &mut [u8], line: &Line) -> bool
+    ensures { (if result then Some (bytes.new, marks.new) else None) ≡ begun (said_of line.now) (bytes.old, marks.old) }
+{
+    match line {
+        Line::Bytes(address, values) => put_from(bytes, marks, *address, values.as_slice(), 0),
+        Line::Held(address, values) => put_from(bytes, marks, *address, values.as_slice(), 1),
+        _ => true,
+    }
 }
 
 // Puts the bytes that a script begins with into the two memories.
@@ -111,21 +184,12 @@ pub fn fill(
     lines: &[Numbered],
     bytes: &mut [u8],
     marks: &mut [u8],
-) -> Result<(), Failure> {
-    for numbered in lines {
-        let (address, values, mark) = match &numbered.line {
-            Line::Bytes(address, values) => (*address, values.as_slice(), 0),
-            Line::Held(address, values) => (*address, values.as_slice(), 1),
-            _ => continue,
-        };
-        let mut at = address as usize;
-        for value in values {
-            if at >= bytes.len() || at >= marks.len() {
-                return Err(wrong(heap, numbered.number, "bytes outside the memory"));
-            }
-            bytes[at] = *value;
-            marks[at] = mark;
-            at += 1;
+) -> Result<(), Failure>
+    ensures { let said = filled (map numbered lines.now) (bytes.old, marks.old) in MatchResult result (λ _. said ≡ Ok (bytes.new, marks.new)) (λ e. Fails e said) }
+{
+    for line in lines {
+        if !begin(bytes, marks, &line.line) {
+            return Err(wrong(heap, line.number, "bytes outside the memory"));
         }
     }
     Ok(())

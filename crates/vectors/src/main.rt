@@ -3,29 +3,10 @@
 
 use marks::Marked;
 use std::io;
+use tally::Tally;
 use units::aes::Aes;
 use units::cham::Cham;
 use units::unit::{Status, Unit};
-
-// How many values came out as published, and how many did not.
-#[derive(Clone, Copy)]
-struct Tally {
-    right: u32,
-    wrong: u32,
-}
-
-impl Tally {
-    // One value more; what is printed of it.
-    fn count(&mut self, right: bool) -> &'static str {
-        if right {
-            self.right = self.right.saturating_add(1);
-            "ok"
-        } else {
-            self.wrong = self.wrong.saturating_add(1);
-            "WRONG"
-        }
-    }
-}
 
 // What a unit answers to a code and two bytes, and its wait; nothing where it lacks the code.
 fn answered<U: Unit>(unit: &mut U, code: u8, a: u8, b: u8) -> Option<(u8, u8)> {

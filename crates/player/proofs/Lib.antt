@@ -1,0 +1,3 @@
+mod Bytewise
+mod Putting
+mod Turns

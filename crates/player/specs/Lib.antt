@@ -1,0 +1,4 @@
+pub mod Answers
+pub mod Memories
+pub mod Scripts
+pub mod Wishes
