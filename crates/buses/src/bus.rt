@@ -14,12 +14,12 @@ pub enum Kind {
     Board,
 }
 
-// Why a bus refuses.
+// Why a bus refuses, each cause by its number.
 #[derive(Clone, Copy, Debug, PartialEq, Eq)]
 pub enum Refusal {
-    UnfitMemories,
-    AbsentCell,
-    HeldToBoard,
+    UnfitMemories = 9,
+    AbsentCell = 20,
+    HeldToBoard = 25,
 }
 
 // A bus, by its cells and by the cells that its layers hide, which only the layers beneath can reach.

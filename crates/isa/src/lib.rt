@@ -83,12 +83,12 @@ pub enum Word {
     Two(u8, u8),
 }
 
-// Why a word or an instruction is refused.
+// Why a word or an instruction is refused, each cause by its number.
 #[derive(Clone, Copy, Debug, PartialEq, Eq)]
 pub enum Refusal {
-    OperandOutOfField,
-    MissingByte,
-    ReservedWord,
+    OperandOutOfField = 10,
+    MissingByte = 30,
+    ReservedWord = 31,
 }
 
 // What the word that begins with these bytes says; `second` counts only where the word has two bytes.

@@ -3,21 +3,21 @@ use super::interval::{Interval, Seal};
 use cpu::machine::Run;
 use cpu::state::Mode;
 
-// Why a call is refused.
+// Why a call is refused, each cause by its number.
 #[derive(Clone, Copy, Debug, PartialEq, Eq)]
 pub enum Refusal {
-    ProgramLength,
-    PairsRange,
-    LineRange,
-    RegisterRange,
-    IntervalRange,
-    OffsetRange,
-    BudgetRange,
-    AbsentCell,
-    BoardCell,
-    HeldByte,
-    NoProgram,
-    NotRunning,
+    ProgramLength = 1,
+    PairsRange = 2,
+    LineRange = 3,
+    RegisterRange = 4,
+    IntervalRange = 5,
+    OffsetRange = 6,
+    BudgetRange = 7,
+    AbsentCell = 20,
+    BoardCell = 21,
+    HeldByte = 22,
+    NoProgram = 23,
+    NotRunning = 24,
 }
 
 // An interval that was not closed, handed back.

@@ -22,10 +22,10 @@ pub struct Reply {
     pub flags: Option<Marked>,
 }
 
-// Why a unit refuses.
+// Why a unit refuses, each cause by its number.
 #[derive(Clone, Copy, Debug, PartialEq, Eq)]
 pub enum Refusal {
-    LackingCode,
+    LackingCode = 26,
 }
 
 // A unit, by its contents, its codes, and what its sort makes of contents and operands.
