@@ -6,6 +6,7 @@ pub mod Laws
 pub mod Meaning
 pub mod Numbers
 pub mod Plans
+pub mod Registers
 pub mod Sbox
 pub mod Undone
 pub mod Planned

@@ -4,6 +4,7 @@ ghost use Rattle.units.specs.declared.unit.Reply.{Reply};
 ghost use Rattle.units.specs.Meaning.{Contents, Operands, Meaning, operands, SameLengths};
 ghost use Rattle.units.specs.Laws.{Quiet, IdleMarks, Clean};
 ghost use Rattle.units.specs.Numbers.{numbered};
+ghost use Rattle.units.specs.Registers.{status_of};
 
 use marks::Marked;
 
@@ -12,6 +13,24 @@ use marks::Marked;
 pub struct Status {
     pub high: Marked,
     pub low: Marked,
+}
+
+// The status register of a byte: both groups have its mark.
+impl From<Marked> for Status {
+    ghost from_gives = { λ m s. s ≡ status_of m };
+
+    fn from(value: Marked) -> Status {
+        Status {
+            high: Marked {
+                byte: value.byte / 16,
+                mark: value.mark,
+            },
+            low: Marked {
+                byte: value.byte % 16,
+                mark: value.mark,
+            },
+        }
+    }
 }
 
 // What an operation answers: a byte, the cycles to wait, and all eight flags if it sets them.
