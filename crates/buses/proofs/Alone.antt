@@ -1,5 +1,5 @@
 -- Writing and lifting are local. Assumes nothing.
-use Rattle.std.proofs.Common.{◌≡◌, ℕ, Bool, true, false, cond, eqb, Ok, Err, Result, sym, refl, ap, ◌∙◌, arith, rules, true-eqb}
+use Rattle.std.proofs.Common.{◌≡◌, ℕ, Ok, Err, Result, refl, ap, rules}
 use Rattle.marks.specs.declared.Mark.{Mark}
 use Rattle.marks.specs.declared.Mark.TheVariants.{Held, Unheld}
 use Rattle.marks.specs.declared.Marked.{Marked}
@@ -9,33 +9,30 @@ use Rattle.buses.specs.Laws.{Local, WriteLaws, LiftLaws}
 
 -- a cell that becomes another of its kind
 same_kind : (cs : Cells) (a : ℕ) (c : Cell) → kind_of c ≡ kind_of (cs a) → Local a cs (put_at cs a c)
-same_kind cs a c e = ((λ k ne. search rules), λ k. kinds k (eqb k a) refl) where
-  kinds : (k : ℕ) (b : Bool) → eqb k a ≡ b → kind_of (cond b c (cs k)) ≡ kind_of (cs k)
-  kinds k true h = e ∙ ap (λ n. kind_of (cs n)) (sym (true-eqb k a (sym h)))
-  kinds k false h = refl
+same_kind cs a c e = ((λ k ne. search rules), λ k. search rules)
 
 settled_local : (cs : Cells) (a : ℕ) (r : Result Cell ℕ) → ((c : Cell) → r ≡ Ok c → kind_of c ≡ kind_of (cs a)) → Local a cs (settled cs a r)
 settled_local cs a (Ok c) h = same_kind cs a c (h c refl)
 settled_local cs a (Err n) h = ((λ k ne. refl), λ k. refl)
 
 shown_kind : (m : Marked) (n : Mark) (c : Cell) → shown m n ≡ Ok c → kind_of c ≡ Board
-shown_kind m Held c e = absurd (let z : ◌≡◌ {A = ℕ} 0 1 = cc in omega arith)
-shown_kind m Unheld c e = let f : c ≡ board m.byte = cc in ap kind_of f
+shown_kind m Held c e = search rules
+shown_kind m Unheld c e = search rules
 
 write_kind : (old : Cell) (m : Marked) (c : Cell) → write_cell old m ≡ Ok c → kind_of c ≡ kind_of old
-write_kind absent m c e = absurd (let z : ◌≡◌ {A = ℕ} 0 1 = cc in omega arith)
-write_kind (plain o) m c e = let f : c ≡ plain m = cc in ap kind_of f
+write_kind absent m c e = search rules
+write_kind (plain o) m c e = search rules
 write_kind (board o) m c e = shown_kind m m.mark c e
 
 lift_kind : (old : Cell) (c : Cell) → lift_cell old ≡ Ok c → kind_of c ≡ kind_of old
-lift_kind absent c e = absurd (let z : ◌≡◌ {A = ℕ} 0 1 = cc in omega arith)
-lift_kind (plain o) c e = let f : c ≡ plain (record { byte = o.byte; mark = Unheld }) = cc in ap kind_of f
-lift_kind (board o) c e = let f : c ≡ board o = cc in ap kind_of f
+lift_kind absent c e = search rules
+lift_kind (plain o) c e = search rules
+lift_kind (board o) c e = search rules
 
 held_refused : (old : Cell) (m : Marked) → kind_of old ≡ Board → m.mark ≡ Held → write_cell old m ≡ Err 25
-held_refused absent m b h = absurd (let z : ◌≡◌ {A = ℕ} 0 1 = cc in omega arith)
-held_refused (plain o) m b h = absurd (let z : ◌≡◌ {A = ℕ} 0 1 = cc in omega arith)
-held_refused (board o) m b h = ap (shown m) h
+held_refused absent m b h = search rules
+held_refused (plain o) m b h = search rules
+held_refused (board o) m b h = search rules
 
 pub write_laws : WriteLaws
 write_laws = record {

@@ -3,8 +3,9 @@ use Rattle.std.proofs.Common.{◌≡◌, ℕ, ◌<◌, List, length, set, refl, 
 use Rattle.marks.specs.declared.Mark.{Mark}
 use Rattle.marks.specs.declared.Mark.TheVariants.{Held, Unheld}
 use Rattle.marks.specs.declared.Marked.{Marked}
+use Rattle.marks.specs.Marks.{mark_of, mark_byte}
 use Rattle.buses.specs.Cells.{plain, put_at, settled, write_cell}
-use Rattle.buses.specs.Memories.{mark_of, mark_byte, store_cells}
+use Rattle.buses.specs.Memories.{store_cells}
 
 mark_back : (m : Mark) → mark_of (mark_byte m) ≡ m
 mark_back Held = refl

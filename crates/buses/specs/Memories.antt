@@ -1,17 +1,7 @@
 -- A store: cells over two memories of the caller's. Assumes nothing.
 use Rattle.std.specs.Prelude.{ℕ, Bool, cond, ◌&&◌, List, length, ◌==◌, nat_le, nat_lt, slice_index}
-use Rattle.marks.specs.declared.Mark.{Mark}
-use Rattle.marks.specs.declared.Mark.TheVariants.{Held, Unheld}
+use Rattle.marks.specs.Marks.{mark_of}
 use Rattle.buses.specs.Cells.{Cells, absent, plain}
-
--- a mark as a byte: 0 is unheld, any other held
-abbrev pub mark_of : ℕ → Mark
-mark_of n = cond (n == 0) Unheld Held
-
--- and as the store writes it
-abbrev pub mark_byte : Mark → ℕ
-mark_byte Unheld = 0
-mark_byte Held = 1
 
 -- memories of one length, up to 65,536
 abbrev pub fit : List ℕ → List ℕ → Bool

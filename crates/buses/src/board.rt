@@ -3,7 +3,7 @@ ghost use Rattle.std.specs.Prelude.{◌≡◌, ◌-◌, ◌*◌, ◌∷◌, repl
 ghost use Rattle.buses.specs.Overlay.{on_board, overlaid, covered};
 
 use super::bus::{Bus, Kind, Refusal};
-use marks::{Mark, Marked};
+use marks::Marked;
 
 // The board's cells lie at page × 256 onwards and hide those beneath.
 #[derive(Drop)]
@@ -60,15 +60,13 @@ impl<B: Bus> Bus for OddsBoard<B> {
     }
 
     fn write(&mut self, address: u16, value: Marked) -> Result<(), Refusal> {
-        let Some(at) = self.index(address) else {
-            return self.below.write(address, value);
-        };
-        match value.mark {
-            Mark::Held => Err(Refusal::HeldToBoard),
-            Mark::Unheld => {
+        match self.index(address) {
+            Some(_) if value.mark.is_held() => Err(Refusal::HeldToBoard),
+            Some(at) => {
                 self.own[at] = value.byte;
                 Ok(())
             }
+            None => self.below.write(address, value),
         }
     }
 

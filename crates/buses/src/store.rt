@@ -1,6 +1,8 @@
 // A bus over two memories of the caller's.
-ghost use Rattle.std.specs.Prelude.{◌≡◌, if◌then◌else◌, Some, None, slice_set};
-ghost use Rattle.buses.specs.Memories.{mark_of, mark_byte, inside};
+ghost use Rattle.std.specs.Prelude.{◌≡◌, if◌then◌else◌, Ok, Err, slice_set};
+ghost use Rattle.marks.specs.Marks.{mark_byte};
+ghost use Rattle.buses.specs.declared.bus.Refusal.TheVariants.{AbsentCell};
+ghost use Rattle.buses.specs.Memories.{inside};
 ghost use Rattle.buses.specs.Cells.{lift_cell, settled, told, write_cell};
 ghost use Rattle.buses.specs.Laws.{LiftLaws, WriteLaws};
 ghost use Rattle.buses.specs.Numbers.{numbered};
@@ -17,26 +19,11 @@ pub struct Unfit<'a> {
     pub marks: &'a mut [u8],
 }
 
-// Cell i has byte i of the one memory and mark i of the other.
+// Cell i has byte i of the one memory and mark i of the other: two slices, since the rules put a store over the caller's n bytes and n marks.
 #[derive(Drop)]
 pub struct Store<'a> {
     bytes: &'a mut [u8],
     marks: &'a mut [u8],
-}
-
-fn mark_of(byte: u8) -> Mark
-    ensures { result ≡ mark_of byte }
-{
-    if byte == 0 { Mark::Unheld } else { Mark::Held }
-}
-
-fn mark_byte(mark: Mark) -> u8
-    ensures { result ≡ mark_byte mark }
-{
-    match mark {
-        Mark::Unheld => 0,
-        Mark::Held => 1,
-    }
 }
 
 impl<'a> Store<'a> {
@@ -55,14 +42,14 @@ impl<'a> Store<'a> {
     }
 
     // The index of a cell in both memories, if it is there.
-    fn index(&self, address: u16) -> Option<usize>
-        ensures { result ≡ (if inside self.now.bytes.now self.now.marks.now address then Some address else None) }
+    fn index(&self, address: u16) -> Result<usize, Refusal>
+        ensures { result ≡ (if inside self.now.bytes.now self.now.marks.now address then Ok address else Err AbsentCell) }
     {
         let at = address as usize;
         if at < self.bytes.len() && at < self.marks.len() {
-            Some(at)
+            Ok(at)
         } else {
-            None
+            Err(Refusal::AbsentCell)
         }
     }
 }
@@ -74,18 +61,16 @@ impl<'a> Bus for Store<'a> {
 
     fn kind(&self, address: u16) -> Kind {
         match self.index(address) {
-            Some(_) => Kind::Plain,
-            None => Kind::Absent,
+            Ok(_) => Kind::Plain,
+            Err(_) => Kind::Absent,
         }
     }
 
     fn read(&self, address: u16) -> Result<Marked, Refusal> {
-        let Some(at) = self.index(address) else {
-            return Err(Refusal::AbsentCell);
-        };
+        let at = self.index(address)?;
         Ok(Marked {
             byte: self.bytes[at],
-            mark: mark_of(self.marks[at]),
+            mark: Mark::from(self.marks[at]),
         })
     }
 
@@ -98,11 +83,9 @@ impl<'a> Bus for Store<'a> {
         ensures bytes { self.new.bytes.now ≡ (if holds self.old address then slice_set self.old.bytes.now address value.byte else self.old.bytes.now) }
         ensures marks { self.new.marks.now ≡ (if holds self.old address then slice_set self.old.marks.now address (mark_byte value.mark) else self.old.marks.now) }
     {
-        let Some(at) = self.index(address) else {
-            return Err(Refusal::AbsentCell);
-        };
+        let at = self.index(address)?;
         self.bytes[at] = value.byte;
-        self.marks[at] = mark_byte(value.mark);
+        self.marks[at] = value.mark.into();
         Ok(())
     }
 
@@ -115,9 +98,7 @@ impl<'a> Bus for Store<'a> {
         ensures bytes { self.new.bytes.now ≡ self.old.bytes.now }
         ensures marks { self.new.marks.now ≡ (if holds self.old address then slice_set self.old.marks.now address 0 else self.old.marks.now) }
     {
-        let Some(at) = self.index(address) else {
-            return Err(Refusal::AbsentCell);
-        };
+        let at = self.index(address)?;
         self.marks[at] = 0;
         Ok(())
     }

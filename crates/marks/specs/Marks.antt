@@ -1,5 +1,5 @@
 -- Marks and marked bytes. Assumes nothing.
-use Rattle.std.specs.Prelude.{◌≡◌, Bool, true, false, ◌||◌, ℕ}
+use Rattle.std.specs.Prelude.{◌≡◌, Bool, true, false, cond, ◌||◌, ◌==◌, ℕ}
 use Rattle.marks.specs.declared.Mark.{Mark}
 use Rattle.marks.specs.declared.Mark.TheVariants.{Held, Unheld}
 use Rattle.marks.specs.declared.Marked.{Marked}
@@ -12,6 +12,15 @@ held Unheld = false
 abbrev pub join : Mark → Mark → Mark
 join Held n = Held
 join Unheld n = n
+
+-- a mark as a byte: 0 is unheld, any other held
+abbrev pub mark_of : ℕ → Mark
+mark_of n = cond (n == 0) Unheld Held
+
+-- and as it is written
+abbrev pub mark_byte : Mark → ℕ
+mark_byte Unheld = 0
+mark_byte Held = 1
 
 abbrev pub unheld : ℕ → Marked
 unheld b = record { byte = b; mark = Unheld }

@@ -2,7 +2,7 @@
 #![tactic(auto)]
 
 ghost use Rattle.std.specs.Prelude.{◌≡◌};
-ghost use Rattle.marks.specs.Marks.{held, join, unheld, lifted, JoinLaws};
+ghost use Rattle.marks.specs.Marks.{held, join, mark_of, mark_byte, unheld, lifted, JoinLaws};
 
 // Whether a byte may be shown.
 #[derive(Clone, Copy, Debug, PartialEq, Eq)]
@@ -22,10 +22,7 @@ impl Mark {
     pub fn is_held(self) -> bool
         ensures { result ≡ held self }
     {
-        match self {
-            Mark::Held => true,
-            Mark::Unheld => false,
-        }
+        self == Mark::Held
     }
 
     // Held if one of the two is.
@@ -36,6 +33,27 @@ impl Mark {
         match self {
             Mark::Held => Mark::Held,
             Mark::Unheld => other,
+        }
+    }
+}
+
+// The mark that a byte of memory says: 0 is unheld, any other held.
+impl From<u8> for Mark {
+    ghost from_gives = { λ b m. m ≡ mark_of b };
+
+    fn from(byte: u8) -> Mark {
+        if byte == 0 { Mark::Unheld } else { Mark::Held }
+    }
+}
+
+// The mark as a byte of memory, 0 or 1.
+impl From<Mark> for u8 {
+    ghost from_gives = { λ m b. b ≡ mark_byte m };
+
+    fn from(mark: Mark) -> u8 {
+        match mark {
+            Mark::Unheld => 0,
+            Mark::Held => 1,
         }
     }
 }
