@@ -1,4 +1,5 @@
 pub mod Boxes
 pub mod Entries
+pub mod Joined
 pub mod Linear
 pub mod Mixing

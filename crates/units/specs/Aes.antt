@@ -1,19 +1,21 @@
 -- The AES unit. Assumes nothing.
-use Rattle.std.specs.Prelude.{◌≡◌, ℕ, ◌+◌, ◌<◌, Bool, true, cond, List, [], ◌∷◌, ◌++◌, map, None, ◌==◌, nat_lt, slice_index}
+use Rattle.std.specs.Prelude.{◌≡◌, ℕ, ◌+◌, ◌<◌, Bool, true, cond, List, [], ◌∷◌, ◌++◌, map, ◌==◌, nat_lt, slice_index}
 use Rattle.std.proofs.Common.{lit<}
 use Rattle.std.proofs.Math.Nat.{lt_trans}
 use Rattle.std.proofs.lemmas.Bool.{ltb-true}
 use Rattle.marks.specs.declared.Marked.{Marked}
 use Rattle.marks.specs.Marks.{unheld}
 use Rattle.units.specs.declared.aes.Aes.{Aes}
-use Rattle.units.specs.declared.aes.Column.{Column}
 use Rattle.units.specs.declared.aes.Direction.{Direction}
 use Rattle.units.specs.declared.aes.Direction.TheVariants.{Mix, Unmix}
+use Rattle.units.specs.declared.sequence.Sequence.{Sequence}
 use Rattle.units.specs.declared.unit.Reply.{Reply}
 use Rattle.units.specs.Columns.{around, mix_row, unmix_row}
 use Rattle.units.specs.Meaning.{Contents, Operands, Meaning}
 use Rattle.units.specs.Plans.{Place, cell, from_a, from_b, Source, copy, work, Plan, made, planned}
+use Rattle.units.specs.Replies.{plain}
 use Rattle.units.specs.Sbox.{substituted, restored}
+use Rattle.units.specs.Sequences.{four, sequence_contents}
 
 -- codes 0 to 3
 abbrev pub aes_codes : ℕ → Bool
@@ -27,7 +29,7 @@ aes_few k h = lt_trans (ltb-true k 4 h) (lit< tt)
 abbrev pub aes_contents : Aes → Contents
 aes_contents s = record {
   stages = s.mix.stage ∷ s.unmix.stage ∷ [];
-  bytes = s.mix.first ∷ s.mix.second ∷ s.mix.third ∷ s.mix.fourth ∷ s.unmix.first ∷ s.unmix.second ∷ s.unmix.third ∷ s.unmix.fourth ∷ [];
+  bytes = four s.mix ++ four s.unmix;
 }
 
 -- a call of a sequence: its answer, its wait, the next stage, and the four bytes afterwards
@@ -81,24 +83,20 @@ aes_plan code stages =
 abbrev pub aes_operates : Meaning
 aes_operates = planned aes_plan
 
--- one sequence by itself
-abbrev pub column_contents : Column → Contents
-column_contents s = record { stages = s.stage ∷ []; bytes = s.first ∷ s.second ∷ s.third ∷ s.fourth ∷ [] }
-
+-- two operands, whatever the status register
 abbrev pub loaded : Marked → Marked → Operands
 loaded a b = record { a = a; b = b; high = unheld 0; low = unheld 0 }
 
-abbrev pub column_step : Direction → Column → Step
+abbrev pub column_step : Direction → Sequence → Step
 column_step d s = call (row_of d) (wait_of d) 0 s.stage
 
-abbrev pub column_reply : Direction → Column → Marked → Marked → Reply
-column_reply d s a b = record { result = made (column_contents s) (loaded a b) (column_step d s).answer; wait = (column_step d s).wait; flags = None }
+abbrev pub column_reply : Direction → Sequence → Marked → Marked → Reply
+column_reply d s a b = plain (made (sequence_contents s) (loaded a b) (column_step d s).answer) (column_step d s).wait
 
-abbrev pub column_after : Direction → Column → Marked → Marked → Contents
-column_after d s a b = record { stages = (column_step d s).stage ∷ []; bytes = map (made (column_contents s) (loaded a b)) (column_step d s).bytes }
+abbrev pub column_after : Direction → Sequence → Marked → Marked → Contents
+column_after d s a b = record { stages = (column_step d s).stage ∷ []; bytes = map (made (sequence_contents s) (loaded a b)) (column_step d s).bytes }
 
 -- the column after its calculating call, its stage apart
-abbrev pub calculated : Direction → Column → Marked → Marked → Column
+abbrev pub calculated : Direction → Sequence → Marked → Marked → Sequence
 calculated d s a b =
-    let at = made (column_contents s) (loaded a b) in
-    record { stage = s.stage; first = at (mixed (row_of d) 0 0); second = at (mixed (row_of d) 0 1); third = at (mixed (row_of d) 0 2); fourth = at (mixed (row_of d) 0 3) }
+    record { stage = s.stage; bytes = map (made (sequence_contents s) (loaded a b)) (mixed (row_of d) 0 0 ∷ mixed (row_of d) 0 1 ∷ mixed (row_of d) 0 2 ∷ mixed (row_of d) 0 3 ∷ []) }

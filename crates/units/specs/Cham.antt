@@ -1,13 +1,15 @@
 -- The CHAM unit. Assumes nothing.
-use Rattle.std.specs.Prelude.{◌≡◌, ℕ, ◌+◌, ◌-◌, ◌*◌, ◌/◌, ◌%◌, ◌^◌, ◌<◌, Bool, true, cond, List, [], ◌∷◌, ◌==◌, bit_or, slice_index, slice_index_or}
+use Rattle.std.specs.Prelude.{◌≡◌, ℕ, ◌+◌, ◌-◌, ◌*◌, ◌/◌, ◌%◌, ◌^◌, ◌<◌, Bool, true, cond, List, [], ◌∷◌, ◌++◌, map, ◌==◌, bit_or, slice_index, slice_index_or}
 use Rattle.std.proofs.Common.{sym, subst, lit<}
 use Rattle.std.proofs.lemmas.Bool.{eqb-true}
 use Rattle.marks.specs.declared.Marked.{Marked}
 use Rattle.marks.specs.Marks.{unheld}
 use Rattle.units.specs.declared.unit.Reply.{Reply}
 use Rattle.units.specs.declared.cham.Cham.{Cham}
+use Rattle.units.specs.declared.sequence.Sequence.{Sequence}
 use Rattle.units.specs.Meaning.{Contents, Meaning}
 use Rattle.units.specs.Plans.{cell, from_a, from_b, Source, copy, work, Plan, worked_out, carried_out, planned}
+use Rattle.units.specs.Sequences.{four, sequence_contents}
 
 -- code 4
 abbrev pub cham_codes : ℕ → Bool
@@ -18,7 +20,7 @@ pub cham_few : (k : ℕ) → cham_codes k ≡ true → k < 16
 cham_few k h = subst (λ n. n < 16) (sym (eqb-true k 4 h)) (lit< tt)
 
 abbrev pub cham_contents : Cham → Contents
-cham_contents s = record { stages = s.stage ∷ []; bytes = s.first ∷ s.second ∷ s.third ∷ s.fourth ∷ [] }
+cham_contents s = sequence_contents s.word
 
 -- four bytes as one number, the first lowest
 abbrev pub word_of : ℕ → ℕ → ℕ → ℕ → ℕ
@@ -31,6 +33,11 @@ turned_left amount n = bit_or ((n * 2 ^ (amount % 32)) % 2 ^ 32) (n / 2 ^ ((32 -
 -- of four bytes and an amount, the byte from a power of 256 on of the turned number
 unfoldable pub turned_byte : ℕ → List ℕ → ℕ
 turned_byte power s = turned_left (slice_index s 4) (word_of (slice_index s 0) (slice_index s 1) (slice_index s 2) (slice_index s 3)) / power % 256
+
+-- all four bytes of it
+abbrev pub turned_bytes : List ℕ → ℕ → List ℕ
+turned_bytes bytes amount =
+    map (λ power. turned_byte power (slice_index bytes 0 ∷ slice_index bytes 1 ∷ slice_index bytes 2 ∷ slice_index bytes 3 ∷ amount ∷ [])) (1 ∷ 256 ∷ 65536 ∷ 16777216 ∷ [])
 
 -- worked out from the four bytes and the amount
 abbrev pub turned : ℕ → Source
@@ -59,10 +66,9 @@ cham_operates = planned cham_plan
 
 -- one call, whatever the status register
 abbrev pub cham_step : Cham → Marked → Marked → Reply × Contents
-cham_step s a b = carried_out (cham_plan 4 (s.stage ∷ [])) (cham_contents s) (record { a = a; b = b; high = unheld 0; low = unheld 0 })
+cham_step s a b = carried_out (cham_plan 4 (s.word.stage ∷ [])) (cham_contents s) (record { a = a; b = b; high = unheld 0; low = unheld 0 })
 
 -- the four bytes after the calculating call, the stage apart
-abbrev pub calculated : Cham → Marked → Cham
+abbrev pub calculated : Sequence → Marked → Sequence
 calculated s amount =
-    let five = s.first ∷ s.second ∷ s.third ∷ s.fourth ∷ amount ∷ [] in
-    record { stage = s.stage; first = worked_out (turned_byte 1) five; second = worked_out (turned_byte 256) five; third = worked_out (turned_byte 65536) five; fourth = worked_out (turned_byte 16777216) five }
+    record { stage = s.stage; bytes = map (λ power. worked_out (turned_byte power) (four s ++ (amount ∷ []))) (1 ∷ 256 ∷ 65536 ∷ 16777216 ∷ []) }

@@ -1,37 +1,29 @@
 // The AES unit: the S-box, and columns that are mixed and mixed back.
 ghost use Rattle.std.specs.Prelude.{◌≡◌};
 ghost use Rattle.units.specs.Meaning.{fresh};
-ghost use Rattle.units.specs.Aes.{row_of, wait_of, calculated, column_contents, column_reply, column_after, aes_codes, aes_few, aes_contents, aes_operates, aes_plan};
+ghost use Rattle.units.specs.Aes.{row_of, wait_of, calculated, column_reply, column_after, aes_codes, aes_few, aes_contents, aes_operates, aes_plan};
+ghost use Rattle.units.specs.Sequences.{sequence_contents};
 ghost use Rattle.units.specs.Planned.{planned_quiet, planned_idle, planned_clean};
 
 use super::field::{mix_row, unmix_row};
 use super::inverse_s_box::restore;
 use super::s_box::substitute;
-use super::unit::{Refusal, Reply, Status, Unit, answer};
+use super::sequence::{Sequence, joined};
+use super::unit::{Refusal, Reply, Status, Unit};
 use marks::Marked;
 
-// Which way a column is mixed.
+// Which way a column is mixed: an enum of two, since the contract of a closure would say in relations what `row_of` says as an equation.
 #[derive(Clone, Copy)]
 enum Direction {
     Mix,
     Unmix,
 }
 
-// Four bytes on their way through a sequence of five calls; `stage` calls of it were made.
-#[derive(Clone, Copy)]
-struct Column {
-    stage: u8,
-    first: Marked,
-    second: Marked,
-    third: Marked,
-    fourth: Marked,
-}
-
-// A column for amc and one for aic.
+// A column for amc and one for aic, each with a sequence of five calls.
 #[derive(Clone, Copy)]
 pub struct Aes {
-    mix: Column,
-    unmix: Column,
+    mix: Sequence,
+    unmix: Sequence,
 }
 
 impl Direction {
@@ -52,72 +44,39 @@ impl Direction {
             Direction::Unmix => 23,
         }
     }
-}
 
-impl Column {
     // The column that the second call completes, mixed; each byte carries the joined mark of all four.
-    fn calculate(&mut self, direction: Direction, a: Marked, b: Marked)
-        ensures { self.new ≡ calculated direction self.old a b }
+    fn calculate(self, column: &mut Sequence, a: Marked, b: Marked)
+        ensures { column.new ≡ calculated self column.old a b }
     {
-        let mark = self
-            .first
-            .mark
-            .join(self.second.mark.join(a.mark.join(b.mark)));
-        let p = self.first.byte;
-        let q = self.second.byte;
-        let first = direction.row(p, q, a.byte, b.byte);
-        let second = direction.row(q, a.byte, b.byte, p);
-        let third = direction.row(a.byte, b.byte, p, q);
-        let fourth = direction.row(b.byte, p, q, a.byte);
-        self.first = Marked { byte: first, mark };
-        self.second = Marked { byte: second, mark };
-        self.third = Marked { byte: third, mark };
-        self.fourth = Marked { byte: fourth, mark };
+        let whole = [column.bytes[0], column.bytes[1], a, b];
+        let [p, q, r, s] = whole.map(|each| each.byte);
+        let mixed = [
+            self.row(p, q, r, s),
+            self.row(q, r, s, p),
+            self.row(r, s, p, q),
+            self.row(s, p, q, r),
+        ];
+        column.replace(mixed, joined(&whole));
     }
 
     // The next call of the sequence.
-    fn call(&mut self, direction: Direction, a: Marked, b: Marked) -> Reply
-        ensures reply { result ≡ column_reply direction self.old a b }
-        ensures after { column_contents self.new ≡ column_after direction self.old a b }
+    fn call(self, column: &mut Sequence, a: Marked, b: Marked) -> Reply
+        ensures reply { result ≡ column_reply self column.old a b }
+        ensures after { sequence_contents column.new ≡ column_after self column.old a b }
     {
-        match self.stage {
+        match column.stage {
             0 => {
-                self.first = a;
-                self.second = b;
-                self.stage = 1;
-                answer(b, 0)
+                column.load(0, a, b);
+                column.answer(1, b, 0)
             }
             1 => {
-                self.calculate(direction, a, b);
-                self.stage = 2;
-                answer(self.fourth, direction.wait())
+                self.calculate(column, a, b);
+                column.answer(2, column.bytes[3], self.wait())
             }
-            2 => {
-                self.stage = 3;
-                answer(self.third, 0)
-            }
-            3 => {
-                self.stage = 4;
-                answer(self.second, 0)
-            }
-            _ => {
-                self.stage = 0;
-                answer(self.first, 0)
-            }
-        }
-    }
-
-    // Zeros, unheld, and no call made.
-    fn fresh() -> Column
-        ensures { column_contents result ≡ fresh 1 4 }
-    {
-        let zero = Marked::unheld(0);
-        Column {
-            stage: 0,
-            first: zero,
-            second: zero,
-            third: zero,
-            fourth: zero,
+            2 => column.answer(3, column.bytes[2], 0),
+            3 => column.answer(4, column.bytes[1], 0),
+            _ => column.answer(0, column.bytes[0], 0),
         }
     }
 }
@@ -128,8 +87,8 @@ impl Aes {
         ensures { aes_contents result ≡ fresh 2 8 }
     {
         Aes {
-            mix: Column::fresh(),
-            unmix: Column::fresh(),
+            mix: Sequence::new(),
+            unmix: Sequence::new(),
         }
     }
 }
@@ -157,22 +116,22 @@ impl Unit for Aes {
         _status: Status,
     ) -> Result<Reply, Refusal> {
         match code {
-            0 => Ok(answer(
+            0 => Ok(Reply::plain(
                 Marked {
                     byte: substitute(a.byte),
-                    mark: a.mark,
+                    ..a
                 },
                 0,
             )),
-            1 => Ok(answer(
+            1 => Ok(Reply::plain(
                 Marked {
                     byte: restore(a.byte),
-                    mark: a.mark,
+                    ..a
                 },
                 0,
             )),
-            2 => Ok(self.mix.call(Direction::Mix, a, b)),
-            3 => Ok(self.unmix.call(Direction::Unmix, a, b)),
+            2 => Ok(Direction::Mix.call(&mut self.mix, a, b)),
+            3 => Ok(Direction::Unmix.call(&mut self.unmix, a, b)),
             _ => Err(Refusal::LackingCode),
         }
     }

@@ -25,9 +25,9 @@ fn times(m: u8, b: u8) -> u8
     let mut sum = 0;
     let mut bits = m;
     let mut power = b;
-    for i in 0..8u8 {
-        sum = sum ^ by_lowest_bit(bits, power);
-        bits = bits / 2;
+    for _ in 0..8u8 {
+        sum ^= by_lowest_bit(bits, power);
+        bits /= 2;
         power = doubled(power);
     }
     sum

@@ -6,4 +6,5 @@ pub mod cham;
 pub mod field;
 pub mod inverse_s_box;
 pub mod s_box;
+mod sequence;
 pub mod unit;

@@ -1,10 +1,11 @@
 // What every unit does, and the laws that it keeps.
-ghost use Rattle.std.specs.Prelude.{◌≡◌, ℕ, ◌<◌, Bool, true, if◌then◌else◌, None, Ok, Err};
+ghost use Rattle.std.specs.Prelude.{◌≡◌, ℕ, ◌<◌, Bool, true, if◌then◌else◌, Ok, Err};
 ghost use Rattle.units.specs.declared.unit.Reply.{Reply};
 ghost use Rattle.units.specs.Meaning.{Contents, Operands, Meaning, operands, SameLengths};
 ghost use Rattle.units.specs.Laws.{Quiet, IdleMarks, Clean};
 ghost use Rattle.units.specs.Numbers.{numbered};
 ghost use Rattle.units.specs.Registers.{status_of};
+ghost use Rattle.units.specs.Replies.{plain};
 
 use marks::Marked;
 
@@ -41,6 +42,19 @@ pub struct Reply {
     pub flags: Option<Marked>,
 }
 
+impl Reply {
+    // An answer that sets no flags.
+    pub(crate) fn plain(byte: Marked, wait: u8) -> Reply
+        ensures { result ≡ plain byte wait }
+    {
+        Reply {
+            result: byte,
+            wait,
+            flags: None,
+        }
+    }
+}
+
 // Why a unit refuses, each cause by its number.
 #[derive(Clone, Copy, Debug, PartialEq, Eq)]
 pub enum Refusal {
@@ -55,6 +69,7 @@ pub trait Unit {
 
     ghost operates: { Meaning };
 
+    // The code is a number, since each unit reads that field of the instruction word in its own way.
     fn operate(&mut self, code: u8, a: Marked, b: Marked, status: Status) -> Result<Reply, Refusal>
         ensures told { numbered result ≡ (if codes self.old code then Ok (operates (codes self.old) code (contents self.old) (operands a b status)).0 else Err 26) }
         ensures contents { contents self.new ≡ (if codes self.old code then (operates (codes self.old) code (contents self.old) (operands a b status)).1 else contents self.old) }
@@ -68,17 +83,4 @@ pub trait Unit {
     ghost clean: { Clean operates };
 
     ghost few: { (s : Self) (k : ℕ) → codes s k ≡ true → k < 16 };
-}
-
-// An answer that sets no flags.
-pub(crate) fn answer(res: Marked, wait: u8) -> Reply
-    ensures res { result.result ≡ res }
-    ensures wait { result.wait ≡ wait }
-    ensures flags { result.flags ≡ None }
-{
-    Reply {
-        result: res,
-        wait,
-        flags: None,
-    }
 }
