@@ -61,25 +61,16 @@ doubled_xor a b h k =
     ∙ (λ i. bit_xor (sym (doubled_parts a h) i) (sym (doubled_parts b k) i))
 
 passed_byte : (b : ℕ) → passed b < 256
-passed_byte b = by (eqb (b / 128) 0) where
-  by : (t : Bool) → cond t 0 0x1B < 256
-  by true = omega arith
-  by false = omega arith
+passed_byte b = search rules
 
 doubled_byte : (b : ℕ) → b < 256 → doubled b < 256
 doubled_byte b h = subst (λ n. n < 256) (sym (doubled_parts b h)) (byte_xor ((2 * b) % 256) (passed b) (omega arith) (passed_byte b))
 
 bit_xor_lem : (m a b : ℕ) → by_lowest_bit m (bit_xor a b) ≡ bit_xor (by_lowest_bit m a) (by_lowest_bit m b)
-bit_xor_lem m a b = by (eqb (m % 2) 0) where
-  by : (t : Bool) → cond t 0 (bit_xor a b) ≡ bit_xor (cond t 0 a) (cond t 0 b)
-  by true = refl
-  by false = refl
+bit_xor_lem m a b = search rules
 
 bit_byte : (m b : ℕ) → b < 256 → by_lowest_bit m b < 256
-bit_byte m b h = by (eqb (m % 2) 0) where
-  by : (t : Bool) → cond t 0 b < 256
-  by true = omega arith
-  by false = h
+bit_byte m b h = search rules
 
 -- the distributive law
 spread : (n m a b : ℕ) → a < 256 → b < 256 → product_of n m (bit_xor a b) ≡ bit_xor (product_of n m a) (product_of n m b)

@@ -11,9 +11,8 @@ use Rattle.units.specs.declared.aes.Direction.TheVariants.{Mix, Unmix}
 use Rattle.units.specs.declared.sequence.Sequence.{Sequence}
 use Rattle.units.specs.declared.unit.Reply.{Reply}
 use Rattle.units.specs.Columns.{around, mix_row, unmix_row}
-use Rattle.units.specs.Meaning.{Contents, Operands, Meaning}
+use Rattle.units.specs.Meaning.{Contents, Operands, Meaning, plain}
 use Rattle.units.specs.Plans.{Place, cell, from_a, from_b, Source, copy, work, Plan, made, planned}
-use Rattle.units.specs.Replies.{plain}
 use Rattle.units.specs.Sbox.{substituted, restored}
 use Rattle.units.specs.Sequences.{four, sequence_contents}
 

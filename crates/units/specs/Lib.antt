@@ -7,7 +7,6 @@ pub mod Meaning
 pub mod Numbers
 pub mod Plans
 pub mod Registers
-pub mod Replies
 pub mod Sbox
 pub mod Sequences
 pub mod Undone

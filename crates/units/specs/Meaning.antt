@@ -1,5 +1,5 @@
 -- What a unit contains, and what an operation makes of it. Assumes nothing.
-use Rattle.std.specs.Prelude.{◌≡◌, ℕ, Bool, List, length, replicate}
+use Rattle.std.specs.Prelude.{◌≡◌, ℕ, Bool, List, None, length, replicate}
 use Rattle.marks.specs.declared.Marked.{Marked}
 use Rattle.marks.specs.Marks.{unheld}
 use Rattle.units.specs.declared.unit.Reply.{Reply}
@@ -26,6 +26,10 @@ SameLengths c d = (length d.stages ≡ length c.stages) × (length d.bytes ≡ l
 -- by the codes that a unit has, the code that is used, contents and operands: the answer and the next contents
 abbrev pub Meaning : Type 0
 Meaning = (ℕ → Bool) → ℕ → Contents → Operands → Reply × Contents
+
+-- an answer that sets no flags
+abbrev pub plain : Marked → ℕ → Reply
+plain m wait = record { result = m; wait = wait; flags = None }
 
 -- so many stages and bytes of nought, unheld
 abbrev pub fresh : ℕ → ℕ → Contents

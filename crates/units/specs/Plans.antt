@@ -1,11 +1,11 @@
 -- Units that work by a plan: code and stages alone say where each byte comes from. Assumes nothing.
-use Rattle.std.specs.Prelude.{ℕ, List, [], ◌∷◌, map, None, slice_index_or}
+use Rattle.std.specs.Prelude.{ℕ, List, [], ◌∷◌, map, slice_index_or}
 use Rattle.marks.specs.declared.Mark.{Mark}
 use Rattle.marks.specs.declared.Mark.TheVariants.{Unheld}
 use Rattle.marks.specs.declared.Marked.{Marked}
 use Rattle.marks.specs.Marks.{join, unheld}
 use Rattle.units.specs.declared.unit.Reply.{Reply}
-use Rattle.units.specs.Meaning.{Contents, Operands, Meaning}
+use Rattle.units.specs.Meaning.{Contents, Operands, Meaning, plain}
 
 -- the joined mark of some bytes
 abbrev pub joined : List Marked → Mark
@@ -46,7 +46,7 @@ made c x (work f ps) = worked_out f (map (taken c x) ps)
 
 -- no flags are set
 abbrev pub carried_out : Plan → Contents → Operands → Reply × Contents
-carried_out p c x = (record { result = made c x p.result; wait = p.wait; flags = None }, record { stages = p.stages; bytes = map (made c x) p.bytes })
+carried_out p c x = (plain (made c x p.result) p.wait, record { stages = p.stages; bytes = map (made c x) p.bytes })
 
 abbrev pub planned : (ℕ → List ℕ → Plan) → Meaning
 planned plan = λ codes code c x. carried_out (plan code c.stages) c x

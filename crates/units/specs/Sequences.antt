@@ -5,6 +5,7 @@ use Rattle.marks.specs.Marks.{unheld}
 use Rattle.units.specs.declared.sequence.Sequence.{Sequence}
 use Rattle.units.specs.Meaning.{Contents}
 
+-- byte k of the four
 abbrev pub byte_at : Sequence → ℕ → Marked
 byte_at s k = slice_index_or s.bytes k (unheld 0)
 

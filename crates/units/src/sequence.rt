@@ -1,8 +1,7 @@
 // Four bytes on their way through a sequence of calls: the first calls load them, one calculates, and the last ones unload the results.
 ghost use Rattle.std.specs.Prelude.{◌≡◌, ◌+◌, ◌≤◌, map, slice_set};
-ghost use Rattle.units.specs.Meaning.{fresh};
+ghost use Rattle.units.specs.Meaning.{fresh, plain};
 ghost use Rattle.units.specs.Plans.{joined};
-ghost use Rattle.units.specs.Replies.{plain};
 ghost use Rattle.units.specs.Sequences.{sequence_contents};
 
 use super::unit::Reply;

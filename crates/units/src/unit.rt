@@ -1,11 +1,10 @@
 // What every unit does, and the laws that it keeps.
 ghost use Rattle.std.specs.Prelude.{◌≡◌, ℕ, ◌<◌, Bool, true, if◌then◌else◌, Ok, Err};
 ghost use Rattle.units.specs.declared.unit.Reply.{Reply};
-ghost use Rattle.units.specs.Meaning.{Contents, Operands, Meaning, operands, SameLengths};
+ghost use Rattle.units.specs.Meaning.{Contents, Operands, Meaning, operands, plain, SameLengths};
 ghost use Rattle.units.specs.Laws.{Quiet, IdleMarks, Clean};
 ghost use Rattle.units.specs.Numbers.{numbered};
 ghost use Rattle.units.specs.Registers.{status_of};
-ghost use Rattle.units.specs.Replies.{plain};
 
 use marks::Marked;
 
