@@ -9,11 +9,7 @@ ghost use Rattle.alu.specs.Shifts.{shifted_left, shifted_right, turned_left, tur
 fn flags(overflow: bool, carry: bool, byte: u8) -> u8
     ensures { result ≡ nibble overflow carry byte }
 {
-    let x = if overflow { 8 } else { 0 };
-    let c = if carry { 4 } else { 0 };
-    let n = if byte >= 128 { 2 } else { 0 };
-    let z = if byte == 0 { 1 } else { 0 };
-    x + c + n + z
+    8 * overflow as u8 + 4 * carry as u8 + 2 * (byte >= 128) as u8 + (byte == 0) as u8
 }
 
 // a + b + carry.
