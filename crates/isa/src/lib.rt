@@ -6,30 +6,32 @@ ghost use Rattle.isa.specs.Laws.{ReadsBack, WritesBack};
 ghost use Rattle.isa.specs.Numbers.{numbered};
 ghost use Rattle.isa.specs.Table.{decoded, encoded, fits, word_of, length_of, branch_opcode, alu_opcode, with_address};
 
-// A flag of the status register that a branch asks for.
+mod text;
+
+// A flag of the status register that a branch asks for, by the upper nibble of that branch.
 #[derive(Clone, Copy, Debug, PartialEq, Eq)]
 pub enum Flag {
-    Zero,
-    Negative,
-    Carry,
-    Overflow,
+    Zero = 4,
+    Negative = 5,
+    Carry = 6,
+    Overflow = 7,
 }
 
-// An operation of the arithmetic unit on two registers.
+// An operation of the arithmetic unit on two registers, by the lower nibble of its first byte.
 #[derive(Clone, Copy, Debug, PartialEq, Eq)]
 pub enum Alu {
-    Add,
-    Sub,
-    And,
-    Lor,
-    Sll,
-    Rol,
-    Srl,
-    Ror,
-    Not,
-    Xor,
-    Adc,
-    Sbc,
+    Add = 0,
+    Sub = 1,
+    And = 2,
+    Lor = 3,
+    Sll = 4,
+    Rol = 5,
+    Srl = 6,
+    Ror = 7,
+    Not = 10,
+    Xor = 11,
+    Adc = 12,
+    Sbc = 13,
 }
 
 // An instruction, its operands as a programmer writes them and in that order. Registers 0 to 7 are
@@ -164,42 +166,6 @@ pub fn encode(instruction: Instruction) -> Result<Word, Refusal>
     }
 }
 
-impl Flag {
-    // The upper nibble of a branch on this flag.
-    fn opcode(self) -> u8
-        ensures { result ≡ branch_opcode self }
-    {
-        match self {
-            Flag::Zero => 4,
-            Flag::Negative => 5,
-            Flag::Carry => 6,
-            Flag::Overflow => 7,
-        }
-    }
-}
-
-impl Alu {
-    // The lower nibble of this operation's first byte.
-    fn opcode(self) -> u8
-        ensures { result ≡ alu_opcode self }
-    {
-        match self {
-            Alu::Add => 0,
-            Alu::Sub => 1,
-            Alu::And => 2,
-            Alu::Lor => 3,
-            Alu::Sll => 4,
-            Alu::Rol => 5,
-            Alu::Srl => 6,
-            Alu::Ror => 7,
-            Alu::Not => 10,
-            Alu::Xor => 11,
-            Alu::Adc => 12,
-            Alu::Sbc => 13,
-        }
-    }
-}
-
 impl Instruction {
     // How many bytes its word has.
     pub fn length(self) -> u8
@@ -253,9 +219,9 @@ impl Instruction {
             Instruction::Mvv(handler, vector) => Word::Two(0x10 + vector, (handler / 16) as u8),
             Instruction::Jmp(target) => with_address(2, target),
             Instruction::Jsr(target) => with_address(3, target),
-            Instruction::Branch(flag, target) => with_address(flag.opcode(), target),
+            Instruction::Branch(flag, target) => with_address(flag as u8, target),
             Instruction::Mvi(byte, dst) => Word::Two(0x80 + dst, byte),
-            Instruction::Alu(op, src, dst) => Word::Two(0x90 + op.opcode(), src * 16 + dst),
+            Instruction::Alu(op, src, dst) => Word::Two(0x90 + op as u8, src * 16 + dst),
             Instruction::Adi(amount, dst) => Word::Two(0x9E, (amount - 1) * 16 + dst),
             Instruction::Sbi(amount, dst) => Word::Two(0x9F, (amount - 1) * 16 + dst),
             Instruction::Aluc(code, src, dst) => Word::Two(0xA0 + code, src * 16 + dst),

@@ -1,9 +1,8 @@
 -- The digits of bytes are read as those bytes. Assumes nothing.
-use Rattle.std.proofs.Common.{◌≡◌, ℕ, suc, ◌+◌, ◌-◌, ◌*◌, ◌/◌, ◌%◌, ◌<◌, ◌≤◌, false, eqb, List, [], ◌∷◌, ◌++◌, length, get_or, take, Some, None, Ok, sym, refl, ap, ◌∙◌, append_assoc, arith, rules}
-use lib.Utf8.{encode}
-use Rattle.std.proofs.lemmas.Str.Ascii.{encode_ascii}
+use Rattle.std.proofs.Common.{◌≡◌, ℕ, suc, ◌+◌, ◌-◌, ◌*◌, ◌/◌, ◌%◌, ◌<◌, ◌≤◌, false, eqb, List, [], ◌∷◌, ◌++◌, length, get_or, take, Some, None, Ok, sym, refl, ap, ◌∙◌, arith, rules}
 use Rattle.std.proofs.lemmas.List.{take_more}
-use Rattle.listing.specs.Digits.{digit_of, hex_digit, hex_of}
+use Rattle.isa.specs.Text.{hex_digit}
+use Rattle.listing.specs.Digits.{digit_of, hex_of}
 use Rattle.listing.specs.Hex.{counted, paired, before, read_hex}
 use Rattle.listing.proofs.Reading.{counts, second_digit}
 
@@ -42,14 +41,6 @@ read_from_lem room at (b ∷ bs) small fits =
 pub read_back : (bs : List ℕ) → ((i : ℕ) → get_or bs i 0 < 256) → length bs ≤ 4096 → read_hex (hex_of bs) ≡ Ok bs
 read_back bs small fits = read_from_lem 4096 0 bs small fits
 
--- a digit as a character is its one byte
-pub digit_bytes : {c n : ℕ} → c ≡ hex_digit n → n < 16 → encode c ≡ hex_digit n ∷ []
-digit_bytes {c} {n} e h = ap encode e ∙ encode_ascii (hex_digit n) (search rules)
-
 -- two digits more are one byte more
-pub byte_more : (bs : List ℕ) (i : ℕ) (text text₁ text₂ : List ℕ) (high low : ℕ) → i < length bs → get_or bs i 0 < 256 → text ≡ hex_of (take i bs) →
-    high ≡ hex_digit (get_or bs i 0 / 16) → low ≡ hex_digit (get_or bs i 0 % 16) → text₁ ≡ text ++ encode high → text₂ ≡ text₁ ++ encode low → text₂ ≡ hex_of (take (i + 1) bs)
-byte_more bs i text text₁ text₂ high low h small so hi lo one two =
-    let x = digit_bytes hi (omega arith) in
-    let y = digit_bytes lo (omega arith) in
-    two ∙ (λ j. (one ∙ (λ k. so k ++ x k)) j ++ y j) ∙ append_assoc (hex_of (take i bs)) _ _ ∙ sym (hex_of_append (take i bs) (get_or bs i 0 ∷ [])) ∙ ap hex_of (sym (take_more bs i 0 h))
+pub byte_more : (bs : List ℕ) (i : ℕ) (text text₁ : List ℕ) → i < length bs → text ≡ hex_of (take i bs) → text₁ ≡ text ++ hex_of (get_or bs i 0 ∷ []) → text₁ ≡ hex_of (take (i + 1) bs)
+byte_more bs i text text₁ h so more = more ∙ ap (λ t. t ++ hex_of (get_or bs i 0 ∷ [])) so ∙ sym (hex_of_append (take i bs) (get_or bs i 0 ∷ [])) ∙ ap hex_of (sym (take_more bs i 0 h))

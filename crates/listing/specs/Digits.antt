@@ -1,9 +1,6 @@
 -- Hex digits. Assumes nothing.
-use Rattle.std.specs.Prelude.{ℕ, ◌+◌, ◌-◌, ◌/◌, ◌%◌, Bool, cond, ◌&&◌, List, [], ◌∷◌, Some, None, Option, nat_le, nat_lt}
-
--- the character of a number below 16: 0 to 9 (48 to 57), A to F (65 to 70)
-abbrev pub hex_digit : ℕ → ℕ
-hex_digit n = cond (nat_lt n 10) (48 + n) (55 + n)
+use Rattle.std.specs.Prelude.{ℕ, ◌-◌, ◌/◌, ◌%◌, Bool, cond, ◌&&◌, List, [], ◌∷◌, Some, None, Option, nat_le}
+use Rattle.isa.specs.Text.{hex_digit}
 
 -- two digits for each byte
 abbrev pub hex_of : List ℕ → List ℕ

@@ -4,7 +4,7 @@ use Rattle.listing.specs.declared.faults.Place.{Place}
 use Rattle.listing.specs.declared.hex.Fault.{Fault}
 use Rattle.listing.specs.declared.hex.Fault.TheVariants.{NoDigit, OddDigits, TooLong, NoMemory}
 use Rattle.listing.specs.Digits.{within}
-use Rattle.listing.specs.Text.{hex_text}
+use Rattle.isa.specs.Text.{hex_text}
 
 -- lines and columns are told from 1
 abbrev pub place_text : Place → List ℕ

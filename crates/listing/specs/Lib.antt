@@ -3,4 +3,3 @@ pub mod Faults
 pub mod Hex
 pub mod Lines
 pub mod Reader
-pub mod Text

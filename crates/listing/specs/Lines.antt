@@ -1,35 +1,32 @@
 -- The lines of a listing. Assumes nothing.
-use Rattle.std.specs.Prelude.{ℕ, ◌+◌, ◌%◌, ◌<◌, cond, List, [], ◌∷◌, ◌++◌, length, Some, None, Ok, Err, codes, decimal, Option, Result, ◌==◌, nat_lt, slice_index}
+use Rattle.std.specs.Prelude.{ℕ, ◌+◌, ◌%◌, ◌<◌, cond, List, [], ◌∷◌, ◌++◌, length, Some, None, Ok, Err, codes, decimal, Option, Result, ◌==◌}
 use Rattle.isa.specs.declared.Instruction.{Instruction}
 use Rattle.isa.specs.declared.Word.{Word}
 use Rattle.isa.specs.declared.Word.TheVariants.{One, Two}
+use Rattle.isa.specs.declared.Refusal.{Refusal}
+use Rattle.isa.specs.declared.Refusal.TheVariants.{OperandOutOfField, MissingByte, ReservedWord}
+use Rattle.isa.specs.Numbers.{refusal_of}
 use Rattle.isa.specs.Table.{decoded, length_of}
+use Rattle.isa.specs.Text.{hex_text, instruction_text}
 use Rattle.listing.specs.declared.lines.Counts.{Counts}
 use Rattle.listing.specs.declared.lines.Line.{Line}
-use Rattle.listing.specs.declared.lines.Reading.{Reading}
-use Rattle.listing.specs.declared.lines.Reading.TheVariants.{Known, Reserved, CutOff}
 use Rattle.listing.specs.Digits.{hex_of}
-use Rattle.listing.specs.Text.{hex_text, instruction_text}
 
--- a decoded word, or why there is none: 31 is a reserved word, 30 a missing byte
-abbrev pub reading_of : Result Instruction ℕ → Reading
-reading_of (Ok x) = Known x
-reading_of (Err n) = cond (n == 31) Reserved CutOff
+-- a decoded word, or why there is none
+abbrev pub reading_of : Result Instruction ℕ → Result Instruction Refusal
+reading_of (Ok x) = Ok x
+reading_of (Err n) = Err (refusal_of n)
 
 -- the bytes of a line: two where the instruction has two, else one
-abbrev pub word_at : ℕ → Option ℕ → Reading → Word
+abbrev pub word_at : ℕ → Option ℕ → Result Instruction Refusal → Word
 word_at first None reading = One first
-word_at first (Some second) (Known x) = cond (length_of x == 2) (Two first second) (One first)
-word_at first (Some second) Reserved = One first
-word_at first (Some second) CutOff = One first
+word_at first (Some second) (Ok x) = cond (length_of x == 2) (Two first second) (One first)
+word_at first (Some second) (Err e) = One first
 
 abbrev pub line_of : ℕ → ℕ → Option ℕ → Line
 line_of address first second =
     let reading = reading_of (decoded (Some first) second) in
     record { address = address; word = word_at first second reading; reading = reading }
-
-abbrev pub byte_at : List ℕ → ℕ → Option ℕ
-byte_at bs i = cond (nat_lt i (length bs)) (Some (slice_index bs i)) None
 
 abbrev pub size_of : Word → ℕ
 size_of (One a) = 1
@@ -55,10 +52,12 @@ abbrev pub word_text : Word → List ℕ
 word_text (One a) = hex_of (a ∷ []) ++ codes "  "
 word_text (Two a b) = hex_of (a ∷ b ∷ [])
 
-abbrev pub reading_text : Reading → List ℕ
-reading_text (Known x) = instruction_text x
-reading_text Reserved = codes "reserved"
-reading_text CutOff = codes "cut off"
+-- a word that cannot be read, and is not reserved, is cut off
+abbrev pub reading_text : Result Instruction Refusal → List ℕ
+reading_text (Ok x) = instruction_text x
+reading_text (Err ReservedWord) = codes "reserved"
+reading_text (Err MissingByte) = codes "cut off"
+reading_text (Err OperandOutOfField) = codes "cut off"
 
 -- a program counter has twelve bits
 abbrev pub line_text : Line → List ℕ
@@ -69,10 +68,11 @@ abbrev pub Below : Counts → ℕ → Type 0
 Below c n = (c.instructions < n) × (c.reserved < n) × (c.cut_off < n)
 
 -- one line more
-abbrev pub counted_to : Reading → Counts → Counts
-counted_to (Known x) c = record { instructions = c.instructions + 1; reserved = c.reserved; cut_off = c.cut_off }
-counted_to Reserved c = record { instructions = c.instructions; reserved = c.reserved + 1; cut_off = c.cut_off }
-counted_to CutOff c = record { instructions = c.instructions; reserved = c.reserved; cut_off = c.cut_off + 1 }
+abbrev pub counted_to : Result Instruction Refusal → Counts → Counts
+counted_to (Ok x) c = record { instructions = c.instructions + 1; reserved = c.reserved; cut_off = c.cut_off }
+counted_to (Err ReservedWord) c = record { instructions = c.instructions; reserved = c.reserved + 1; cut_off = c.cut_off }
+counted_to (Err MissingByte) c = record { instructions = c.instructions; reserved = c.reserved; cut_off = c.cut_off + 1 }
+counted_to (Err OperandOutOfField) c = record { instructions = c.instructions; reserved = c.reserved; cut_off = c.cut_off + 1 }
 
 -- the counts after some lines more
 abbrev pub tallied : Counts → List Line → Counts

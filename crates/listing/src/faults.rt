@@ -1,9 +1,8 @@
 // What is told of a text that is no program.
 ghost use Rattle.std.specs.Prelude.{◌≡◌, ◌-◌, ◌^◌, ◌<◌, IfOk, Some, string_bytes};
-ghost use Rattle.listing.specs.Faults.{place_text, advanced, place_of, found_text, placed_text, no_digit_text, fault_text};
+ghost use Rattle.listing.specs.Faults.{place_text, advanced, place_of, found_text, fault_text};
 
 use super::hex::Fault;
-use super::text::{Hex, Width};
 use std::alloc::{AllocError, Global};
 use std::fmt;
 
@@ -38,11 +37,7 @@ impl fmt::Display for Found {
             let printed = byte as char;
             write!(f, "'{printed}'")
         } else {
-            let number = Hex {
-                width: Width::Two,
-                value: byte as u16,
-            };
-            write!(f, "byte {number}")
+            write!(f, "byte 0x{byte:02X}")
         }
     }
 }
@@ -73,28 +68,10 @@ pub fn place_of(text: &[u8], at: usize) -> Place
     ensures { result ≡ place_of text.now at }
 {
     let mut place = Place { line: 0, column: 0 };
-    for (i, b) in text.iter().enumerate() {
-        if i >= at {
-            break;
-        }
+    for b in text.iter().take(at) {
         place = place.after(*b);
     }
     place
-}
-
-// What is wrong, after the place where it is.
-fn placed_text(heap: Global, text: &[u8], at: usize, what: &str) -> Result<String, AllocError>
-    ensures { IfOk result (λ t. string_bytes t ≡ placed_text text.now at what.now) }
-{
-    let place = place_of(text, at);
-    format!(in heap; "{place}: {what}")
-}
-
-fn no_digit_text(heap: Global, byte: u8) -> Result<String, AllocError>
-    ensures { IfOk result (λ t. string_bytes t ≡ no_digit_text byte) }
-{
-    let found = Found(byte);
-    format!(in heap; "{found} is no hex digit")
 }
 
 // A fault in one line, with its place where it has one.
@@ -103,16 +80,17 @@ pub fn fault_text(heap: Global, text: &[u8], fault: Fault) -> Result<String, All
 {
     match fault {
         Fault::NoDigit { at, byte } => {
-            let what = no_digit_text(heap, byte)?;
-            placed_text(heap, text, at, what.as_str())
+            format!(in heap; "{}: {} is no hex digit", place_of(text, at), Found(byte))
         }
-        Fault::OddDigits { at } => placed_text(
-            heap,
-            text,
-            at,
-            "an odd number of digits, this one is left over",
-        ),
-        Fault::TooLong { at } => placed_text(heap, text, at, "more than 4096 bytes"),
+        Fault::OddDigits { at } => {
+            format!(in heap;
+                "{}: an odd number of digits, this one is left over",
+                place_of(text, at)
+            )
+        }
+        Fault::TooLong { at } => {
+            format!(in heap; "{}: more than 4096 bytes", place_of(text, at))
+        }
         Fault::NoMemory => String::from_str(heap, "out of memory"),
     }
 }

@@ -1,7 +1,7 @@
 // Programs as hex digits.
 ghost use Rattle.std.specs.Prelude.{◌≡◌, ◌<◌, ◌≤◌, length, IfOk, Ok, string_bytes};
 ghost use Rattle.listing.specs.declared.hex.Fault.TheVariants.{NoMemory};
-ghost use Rattle.listing.specs.Digits.{hex_digit, digit_of, hex_of};
+ghost use Rattle.listing.specs.Digits.{digit_of, hex_of};
 ghost use Rattle.listing.specs.Hex.{is_blank, read_hex, ReadAs};
 ghost use Rattle.listing.specs.Reader.{Small, Took, TookDigit};
 
@@ -42,25 +42,11 @@ struct Reader {
     in_comment: bool,
 }
 
-// The digit of a number below 16.
-pub(crate) fn hex_digit(n: u8) -> char
-    requires { n < 16 }
-    ensures { result ≡ hex_digit n }
-{
-    let code = if n < 10 { b'0' + n } else { b'A' - 10 + n };
-    code as char
-}
-
 // The value of a hex digit in either case.
 fn digit_value(b: u8) -> Option<u8>
     ensures { result ≡ digit_of b }
 {
-    match b {
-        b'0'..=b'9' => Some(b - b'0'),
-        b'A'..=b'F' => Some(b - b'A' + 10),
-        b'a'..=b'f' => Some(b - b'a' + 10),
-        _ => None,
-    }
+    char::from(b).to_digit(16).map(|value| value as u8)
 }
 
 fn is_blank(b: u8) -> bool
@@ -140,9 +126,8 @@ pub fn write_hex(heap: Global, bytes: &[u8]) -> Result<String, AllocError>
     ensures read_back { IfOk result (λ t. length bytes.now ≤ 4096 → read_hex (string_bytes t) ≡ Ok bytes.now) }
 {
     let mut text = String::new(heap);
-    for b in bytes {
-        text.push(hex_digit(*b / 16))?;
-        text.push(hex_digit(*b % 16))?;
+    for byte in bytes {
+        write!(text, "{byte:02X}")?;
     }
     Ok(text)
 }

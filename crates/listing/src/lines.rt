@@ -1,26 +1,17 @@
 // A program as lines, one to an instruction.
-ghost use Rattle.std.specs.Prelude.{◌≡◌, ◌-◌, ◌^◌, IfOk, string_bytes};
-ghost use Rattle.listing.specs.Lines.{byte_at, Below, counted_to, line_of, size_of, lines_of, bytes_of, line_text, word_text, reading_text, counts_of, summary_text, lines_text, counted_text, listing_text};
+ghost use Rattle.std.specs.Prelude.{◌≡◌, ◌-◌, ◌^◌, IfOk, Some, string_bytes};
+ghost use Rattle.listing.specs.Lines.{Below, counted_to, line_of, word_at, size_of, lines_of, bytes_of, line_text, word_text, reading_text, counts_of, summary_text, lines_text, counted_text, listing_text};
 
-use super::hex::write_hex;
-use super::text::{Hex, Width, instruction_text};
 use isa::{Instruction, Refusal, Word, decode};
 use std::alloc::{AllocError, Global};
+use std::fmt;
 
-// What stands at an address.
-#[derive(Clone, Copy)]
-pub enum Reading {
-    Known(Instruction),
-    Reserved,
-    CutOff,
-}
-
-// A line of a listing.
+// A line of a listing: a word, and what it says or why it cannot be read.
 #[derive(Clone, Copy)]
 pub struct Line {
     pub address: usize,
     pub word: Word,
-    pub reading: Reading,
+    pub reading: Result<Instruction, Refusal>,
 }
 
 // How many lines of each sort a listing has.
@@ -31,33 +22,25 @@ pub struct Counts {
     pub cut_off: usize,
 }
 
+// The bytes of a word that was read: two where the instruction has two, else one.
+fn word_at(first: u8, second: Option<u8>, reading: Result<Instruction, Refusal>) -> Word
+    ensures { result ≡ word_at first second reading }
+{
+    match (reading, second) {
+        (Ok(instruction), Some(second)) if instruction.length() == 2 => Word::Two(first, second),
+        _ => Word::One(first),
+    }
+}
+
 // The line of the word that begins with these bytes.
 fn line_at(address: usize, first: u8, second: Option<u8>) -> Line
     ensures { result ≡ line_of address first second }
 {
-    let lone = Word::One(first);
-    match decode(Some(first), second) {
-        Ok(instruction) => {
-            let word = match second {
-                Some(second) if instruction.length() == 2 => Word::Two(first, second),
-                _ => lone,
-            };
-            Line {
-                address,
-                word,
-                reading: Reading::Known(instruction),
-            }
-        }
-        Err(Refusal::ReservedWord) => Line {
-            address,
-            word: lone,
-            reading: Reading::Reserved,
-        },
-        Err(_) => Line {
-            address,
-            word: lone,
-            reading: Reading::CutOff,
-        },
+    let reading = decode(Some(first), second);
+    Line {
+        address,
+        word: word_at(first, second, reading),
+        reading,
     }
 }
 
@@ -71,80 +54,87 @@ fn size(word: Word) -> usize
     }
 }
 
-// The byte at an address, if the program has one there.
-fn byte_at(program: &[u8], at: usize) -> Option<u8>
-    ensures { result ≡ byte_at program.now at }
-{
-    program.get(at).copied()
-}
-
 // The lines of a program; a word that cannot be read takes one byte.
 pub fn lines(heap: Global, program: &[u8]) -> Result<Vec<Line>, AllocError>
     ensures lines { IfOk result (λ v. v.items ≡ lines_of 0 program.now) }
     ensures whole { IfOk result (λ v. bytes_of v.items ≡ program.now) }
 {
     let mut lines = Vec::new(heap);
-    let mut at = 0;
-    while at < program.len() {
-        let line = line_at(at, program[at], byte_at(program, at + 1));
+    let mut left = program;
+    while let [first, rest @ ..] = left {
+        let address = program.len() - left.len();
+        let line = line_at(address, *first, rest.first().copied());
         lines.push(line)?;
-        at += size(line.word);
+        left = &left[size(line.word)..];
     }
     Ok(lines)
 }
 
 // The digits of a word, in the width of two bytes.
-fn word_text(heap: Global, word: Word) -> Result<String, AllocError>
-    ensures { IfOk result (λ t. string_bytes t ≡ word_text word) }
-{
-    match word {
-        Word::One(a) => {
-            let digits = write_hex(heap, &[a])?;
-            format!(in heap; "{digits}  ")
+#[derive(Drop)]
+struct Digits(Word);
+
+impl fmt::Display for Digits {
+    ghost output = { λ x. Some (word_text x.0) };
+
+    fn fmt<W: fmt::Write>(&self, f: &mut fmt::Formatter<W>) -> fmt::Result {
+        match self.0 {
+            Word::One(a) => write!(f, "{a:02X}  "),
+            Word::Two(a, b) => write!(f, "{a:02X}{b:02X}"),
         }
-        Word::Two(a, b) => write_hex(heap, &[a, b]),
     }
 }
 
-fn reading_text(heap: Global, reading: Reading) -> Result<String, AllocError>
-    ensures { IfOk result (λ t. string_bytes t ≡ reading_text reading) }
-{
-    match reading {
-        Reading::Known(instruction) => instruction_text(heap, instruction),
-        Reading::Reserved => String::from_str(heap, "reserved"),
-        Reading::CutOff => String::from_str(heap, "cut off"),
+// What a word says, or why it cannot be read.
+#[derive(Drop)]
+struct Reading(Result<Instruction, Refusal>);
+
+impl fmt::Display for Reading {
+    ghost output = { λ x. Some (reading_text x.0) };
+
+    fn fmt<W: fmt::Write>(&self, f: &mut fmt::Formatter<W>) -> fmt::Result {
+        match self.0 {
+            Ok(instruction) => write!(f, "{instruction}"),
+            Err(Refusal::ReservedWord) => write!(f, "reserved"),
+            Err(_) => write!(f, "cut off"),
+        }
     }
 }
 
 // A line as text: address, bytes, and what they say.
+impl fmt::Display for Line {
+    ghost output = { λ line. Some (line_text line) };
+
+    fn fmt<W: fmt::Write>(&self, f: &mut fmt::Formatter<W>) -> fmt::Result {
+        let address = self.address % 4096;
+        let word = Digits(self.word);
+        let reading = Reading(self.reading);
+        write!(f, "0x{address:03X}  {word}  {reading}")
+    }
+}
+
 pub fn line_text(heap: Global, line: Line) -> Result<String, AllocError>
     ensures { IfOk result (λ t. string_bytes t ≡ line_text line) }
 {
-    let address = Hex {
-        width: Width::Three,
-        value: (line.address % 4096) as u16,
-    };
-    let word = word_text(heap, line.word)?;
-    let reading = reading_text(heap, line.reading)?;
-    format!(in heap; "{address}  {word}  {reading}")
+    line.to_string(heap)
 }
 
 impl Counts {
     // One line more.
-    fn with(self, reading: Reading) -> Counts
+    fn with(self, reading: Result<Instruction, Refusal>) -> Counts
         requires { Below self (2 ^ 64 - 1) }
         ensures { result ≡ counted_to reading self }
     {
         match reading {
-            Reading::Known(_) => Counts {
+            Ok(_) => Counts {
                 instructions: self.instructions + 1,
                 ..self
             },
-            Reading::Reserved => Counts {
+            Err(Refusal::ReservedWord) => Counts {
                 reserved: self.reserved + 1,
                 ..self
             },
-            Reading::CutOff => Counts {
+            Err(_) => Counts {
                 cut_off: self.cut_off + 1,
                 ..self
             },
@@ -168,15 +158,33 @@ pub fn count(lines: &[Line]) -> Counts
 }
 
 // The last line of a listing.
+#[derive(Drop)]
+struct Summary {
+    bytes: usize,
+    counts: Counts,
+}
+
+impl fmt::Display for Summary {
+    ghost output = { λ x. Some (summary_text x.bytes x.counts) };
+
+    fn fmt<W: fmt::Write>(&self, f: &mut fmt::Formatter<W>) -> fmt::Result {
+        let bytes = self.bytes;
+        let Counts {
+            instructions,
+            reserved,
+            cut_off,
+        } = self.counts;
+        write!(
+            f,
+            "{bytes} bytes, {instructions} instructions, {reserved} reserved, {cut_off} cut off"
+        )
+    }
+}
+
 pub fn summary_text(heap: Global, bytes: usize, counts: Counts) -> Result<String, AllocError>
     ensures { IfOk result (λ t. string_bytes t ≡ summary_text bytes counts) }
 {
-    let instructions = counts.instructions;
-    let reserved = counts.reserved;
-    let cut_off = counts.cut_off;
-    format!(in heap;
-        "{bytes} bytes, {instructions} instructions, {reserved} reserved, {cut_off} cut off"
-    )
+    Summary { bytes, counts }.to_string(heap)
 }
 
 // Lines one under another.
@@ -185,18 +193,9 @@ fn lines_text(heap: Global, lines: &[Line]) -> Result<String, AllocError>
 {
     let mut text = String::new(heap);
     for line in lines {
-        let one = line_text(heap, *line)?;
-        text.push_str(one.as_str())?;
-        text.push_str("\n")?;
+        writeln!(text, "{line}")?;
     }
     Ok(text)
-}
-
-// What lines count to.
-fn counts_text(heap: Global, bytes: usize, lines: &[Line]) -> Result<String, AllocError>
-    ensures { IfOk result (λ t. string_bytes t ≡ summary_text bytes (counts_of lines.now)) }
-{
-    summary_text(heap, bytes, count(lines))
 }
 
 // Lines, then what they count to.
@@ -204,7 +203,10 @@ fn counted_text(heap: Global, bytes: usize, lines: &[Line]) -> Result<String, Al
     ensures { IfOk result (λ t. string_bytes t ≡ counted_text bytes lines.now) }
 {
     let text = lines_text(heap, lines)?;
-    let summary = counts_text(heap, bytes, lines)?;
+    let summary = Summary {
+        bytes,
+        counts: count(lines),
+    };
     format!(in heap; "{text}{summary}\n")
 }
 

@@ -2,5 +2,5 @@ use Rattle.std.proofs.Common.{◌≡◌, take, string_bytes}
 use Rattle.listing.specs.Digits.{hex_of}
 use Rattle.listing.proofs.hex.write_hex.Given as goal
 
-abbrev pub invariant-loop-b : goal.invariant-loop-b
-invariant-loop-b l = string_bytes l.text ≡ hex_of (take l.b-index l.bytes)
+abbrev pub invariant-loop-byte : goal.invariant-loop-byte
+invariant-loop-byte l = string_bytes l.text ≡ hex_of (take l.byte-index l.bytes)

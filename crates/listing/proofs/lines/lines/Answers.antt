@@ -1,25 +1,19 @@
-use Rattle.std.proofs.Common.{◌++◌, vec_items, sym, ap, ◌∙◌, append-nil, arith}
-use Rattle.std.proofs.lemmas.List.{at_drop_all}
-use Rattle.listing.specs.Lines.{line_of, lines_of, bytes_of}
-use Rattle.listing.proofs.Listing.{lines_more, bytes_more}
+use Rattle.std.proofs.Common.{◌≡◌, ◌+◌, ◌-◌, ◌≤◌, ◌++◌, length, drop, slice_get, vec_items, ap, ◌∙◌, length-append, arith, rules}
+use Rattle.std.proofs.lemmas.List.{length-drop}
+use Rattle.listing.specs.Lines.{lines_of, bytes_of}
+use Rattle.listing.proofs.Listing.{line_more, kept}
 use Rattle.listing.proofs.lines.lines.Goals as goal
 
-pub loop-at-preserved : goal.loop-at-preserved
-loop-at-preserved c =
-    let is = c.line_at-line.ensures ∙ ap (line_of c.loop-at.at _) c.byte_at.ensures in
-    let old = vec_items c.loop-at.lines in
-    let new = vec_items c.push.new.self in
-    let pushed = c.in_ok-push.ensures.items in (
-      lines_more c.args.program.now c.loop-at.at (omega arith) old new is c.size-at.ensures pushed c.loop-at.invariant.0,
-      bytes_more c.args.program.now c.loop-at.at (omega arith) old new is c.size-at.ensures pushed c.loop-at.invariant.1,
-    )
-
-pub returns : goal.returns
-returns c =
+pub loop-left-preserved : goal.loop-left-preserved
+loop-left-preserved c =
     let program = c.args.program.now in
-    let at = c.loop-at.at in
-    let items = vec_items c.loop-at.lines in
-    record {
-      lines = sym (append-nil items) ∙ sym (at_drop_all (λ l. items ++ lines_of at l) program at (omega arith)) ∙ c.loop-at.invariant.0;
-      whole = sym (append-nil (bytes_of items)) ∙ sym (at_drop_all (λ l. bytes_of items ++ l) program at (omega arith)) ∙ c.loop-at.invariant.1;
-    }
+    let left = c.loop-left.left.now in
+    let n = c.size.result in
+    let new = vec_items c.push.new.self in
+    let next = c.copied.ensures ∙ c.first.ensures.value ∙ ap (λ l. slice_get l 0) (kept 1 left) in
+    let more = line_more _ left c.copied.result (vec_items c.loop-left.lines) new _ _ c.line_at-line.result n c.in-len1-up.len_at_least next c.line_at-line.ensures c.size.ensures c.in_ok-push.ensures.items c.loop-left.invariant.0 c.loop-left.invariant.1 in
+    let short : n ≤ length left = search rules in
+    let at : length program - length (drop n left) ≡ length program - length left + n = omega (arith, length-drop n left, ap length c.loop-left.invariant.1, length-append (bytes_of (vec_items c.loop-left.lines)) left) in (
+      (λ i. new ++ lines_of (length program - length (kept n left i)) (kept n left i)) ∙ ap (λ k. new ++ lines_of k (drop n left)) at ∙ more.0,
+      ap (λ l. bytes_of new ++ l) (kept n left) ∙ more.1,
+    )

@@ -1,16 +1,14 @@
-use Rattle.std.proofs.Common.{◌≡◌, ℕ, ◌≤◌, [], ◌∷◌, ◌++◌, ap, ◌∙◌, subst, arith, rules}
-use Rattle.std.proofs.lemmas.Str.Ascii.{encode_ascii}
+use Rattle.std.proofs.Common.{◌≡◌, ◌++◌, codes, ap, ◌∙◌, subst, arith, rules}
 use Rattle.std.specs.Fmt.{HasWritten}
+use Rattle.isa.specs.Text.{hex_text}
+use Rattle.isa.proofs.HexText.{two_digits}
 use Rattle.listing.specs.Faults.{found_text}
 use Rattle.listing.proofs.faults.FoundDisplay.fmt.Goals as goal
 
-quoted : (b : ℕ) → 33 ≤ b → b ≤ 126 → 39 ∷ b ∷ 39 ∷ [] ≡ found_text b
-quoted b low high = search rules
-
-pub returns-then-byte-le126-clause-writes : goal.returns-then-byte-le126-clause-writes
-returns-then-byte-le126-clause-writes g c =
+pub returns-else-byte-ge33-clause-writes : goal.returns-else-byte-ge33-clause-writes
+returns-else-byte-ge33-clause-writes g c =
+    let w = rw (c.in_radix.ensures, c.laid_out.ensures) at c.write-else-byte-ge33.ensures.writes in
     let b = c.args.self.now.0 in
-    λ plain ok.
-    subst (λ l. HasWritten g.W.Write.write_str_gives c.args.f.now l c.write.new.self)
-    (ap (λ l. 39 ∷ (l ++ (39 ∷ []))) (encode_ascii b (omega arith)) ∙ quoted b (omega arith) (omega arith))
-    (c.write.ensures.writes plain ok)
+    let unprinted : codes "byte " ++ hex_text 2 b ≡ found_text b = search rules in
+    λ plain ok. subst (λ l. HasWritten g.W.Write.write_str_gives c.args.f.now l c.write-else-byte-ge33.new.self)
+    (ap (λ l. codes "byte 0x" ++ l) (two_digits b (omega arith)) ∙ unprinted) (w plain ok)

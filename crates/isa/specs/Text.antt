@@ -1,14 +1,15 @@
 -- Instructions as text. Assumes nothing.
-use Rattle.std.specs.Prelude.{ℕ, zero, suc, ◌-◌, ◌/◌, ◌%◌, cond, List, [], ◌∷◌, ◌++◌, codes, decimal, ◌==◌, nat_lt}
+use Rattle.std.specs.Prelude.{ℕ, zero, suc, ◌+◌, ◌-◌, ◌/◌, ◌%◌, cond, List, [], ◌∷◌, ◌++◌, codes, decimal, ◌==◌, nat_lt}
 use Rattle.isa.specs.declared.Alu.{Alu}
 use Rattle.isa.specs.declared.Alu.TheVariants as alu
 use Rattle.isa.specs.declared.Flag.{Flag}
 use Rattle.isa.specs.declared.Flag.TheVariants as flag
 use Rattle.isa.specs.declared.Instruction.{Instruction}
 use Rattle.isa.specs.declared.Instruction.TheVariants as i
-use Rattle.listing.specs.Digits.{hex_digit}
-use Rattle.listing.specs.declared.text.Width.{Width}
-use Rattle.listing.specs.declared.text.Width.TheVariants.{Two, Three, Four}
+
+-- the character of a number below 16: 0 to 9 (48 to 57), A to F (65 to 70)
+abbrev pub hex_digit : ℕ → ℕ
+hex_digit n = cond (nat_lt n 10) (48 + n) (55 + n)
 
 -- the last digits of a number, as many as asked for
 abbrev pub hex_digits : ℕ → ℕ → List ℕ
@@ -17,11 +18,6 @@ hex_digits (suc k) n = hex_digits k (n / 16) ++ (hex_digit (n % 16) ∷ [])
 
 abbrev pub hex_text : ℕ → ℕ → List ℕ
 hex_text k n = codes "0x" ++ hex_digits k n
-
-abbrev pub digit_count : Width → ℕ
-digit_count Two = 2
-digit_count Three = 3
-digit_count Four = 4
 
 abbrev pub register_text : ℕ → List ℕ
 register_text n = cond (nat_lt n 8) (codes "r" ++ decimal n) (codes "a" ++ decimal (n - 8))
