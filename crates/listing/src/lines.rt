@@ -1,6 +1,6 @@
 // A program as lines, one to an instruction.
 ghost use Rattle.std.specs.Prelude.{◌≡◌, ◌-◌, ◌^◌, IfOk, Some, string_bytes};
-ghost use Rattle.listing.specs.Lines.{Below, counted_to, line_of, word_at, size_of, lines_of, bytes_of, line_text, word_text, reading_text, counts_of, summary_text, lines_text, counted_text, listing_text};
+ghost use Rattle.listing.specs.Lines.{Below, counted_to, line_of, word_at, size_of, lines_of, bytes_of, line_text, word_text, reading_text, counts_of, summary_text, lines_text, listing_text};
 
 use isa::{Instruction, Refusal, Word, decode};
 use std::alloc::{AllocError, Global};
@@ -198,22 +198,15 @@ fn lines_text(heap: Global, lines: &[Line]) -> Result<String, AllocError>
     Ok(text)
 }
 
-// Lines, then what they count to.
-fn counted_text(heap: Global, bytes: usize, lines: &[Line]) -> Result<String, AllocError>
-    ensures { IfOk result (λ t. string_bytes t ≡ counted_text bytes lines.now) }
-{
-    let text = lines_text(heap, lines)?;
-    let summary = Summary {
-        bytes,
-        counts: count(lines),
-    };
-    format!(in heap; "{text}{summary}\n")
-}
-
 // A program's listing.
 pub fn listing_text(heap: Global, program: &[u8]) -> Result<String, AllocError>
     ensures { IfOk result (λ t. string_bytes t ≡ listing_text program.now) }
 {
-    let listed = lines(heap, program)?;
-    counted_text(heap, program.len(), listed.as_slice())
+    let lines = lines(heap, program)?;
+    let text = lines_text(heap, lines.as_slice())?;
+    let summary = Summary {
+        bytes: program.len(),
+        counts: count(lines.as_slice()),
+    };
+    format!(in heap; "{text}{summary}\n")
 }

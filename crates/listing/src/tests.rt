@@ -47,19 +47,13 @@ fn instructions_in_assembler_syntax(rt: HostRuntime) -> Result<(), Fail> {
 }
 
 fn read_as(rt: &(impl Abort + AllocGlobal), text: &str, bytes: &[u8]) -> Result<(), Fail> {
-    let program = match read_hex(rt.alloc(), text.as_bytes()) {
-        Ok(program) => program,
-        Err(_) => return Err(Fail::new("refused")),
-    };
+    let program = read_hex(rt.alloc(), text.as_bytes())?;
     assert_eq!(rt; program.as_slice(), bytes);
     Ok(())
 }
 
 fn faulty_as(rt: &(impl Abort + AllocGlobal), text: &str, told: &str) -> Result<(), Fail> {
-    let fault = match read_hex(rt.alloc(), text.as_bytes()) {
-        Ok(_) => return Err(Fail::new("read")),
-        Err(fault) => fault,
-    };
+    let fault = read_hex(rt.alloc(), text.as_bytes()).err().ok_or("read")?;
     let written = fault_text(rt.alloc(), text.as_bytes(), fault)?;
     assert_eq!(rt; written.as_str(), told);
     Ok(())
