@@ -7,7 +7,7 @@ use std::alloc::{AllocError, Global};
 use std::fmt;
 
 // A place in a text: the lines before it, and the characters before it in its line.
-#[derive(Clone, Copy, Debug, PartialEq, Eq)]
+#[derive(Clone, Copy, Debug, Default, PartialEq, Eq)]
 pub struct Place {
     pub line: usize,
     pub column: usize,
@@ -33,7 +33,7 @@ impl fmt::Display for Found {
 
     fn fmt<W: fmt::Write>(&self, f: &mut fmt::Formatter<W>) -> fmt::Result {
         let byte = self.0;
-        if byte >= 33 && byte <= 126 {
+        if byte.is_ascii_graphic() {
             let printed = byte as char;
             write!(f, "'{printed}'")
         } else {
@@ -67,7 +67,7 @@ impl Place {
 pub fn place_of(text: &[u8], at: usize) -> Place
     ensures { result ≡ place_of text.now at }
 {
-    let mut place = Place { line: 0, column: 0 };
+    let mut place = Place::default();
     for b in text.iter().take(at) {
         place = place.after(*b);
     }

@@ -15,7 +15,7 @@ pub struct Line {
 }
 
 // How many lines of each sort a listing has.
-#[derive(Clone, Copy)]
+#[derive(Clone, Copy, Default)]
 pub struct Counts {
     pub instructions: usize,
     pub reserved: usize,
@@ -113,6 +113,7 @@ impl fmt::Display for Line {
     }
 }
 
+// A line as a string of its own.
 pub fn line_text(heap: Global, line: Line) -> Result<String, AllocError>
     ensures { IfOk result (λ t. string_bytes t ≡ line_text line) }
 {
@@ -146,11 +147,7 @@ impl Counts {
 pub fn count(lines: &[Line]) -> Counts
     ensures { result ≡ counts_of lines.now }
 {
-    let mut counts = Counts {
-        instructions: 0,
-        reserved: 0,
-        cut_off: 0,
-    };
+    let mut counts = Counts::default();
     for line in lines {
         counts = counts.with(line.reading);
     }
@@ -181,6 +178,7 @@ impl fmt::Display for Summary {
     }
 }
 
+// What is counted, as a string of its own.
 pub fn summary_text(heap: Global, bytes: usize, counts: Counts) -> Result<String, AllocError>
     ensures { IfOk result (λ t. string_bytes t ≡ summary_text bytes counts) }
 {
