@@ -3,6 +3,7 @@ pub mod Instructions
 pub mod Interrupts
 pub mod Laws
 pub mod Machines
+pub mod Names
 pub mod Outcomes
 pub mod Runs
 pub mod State

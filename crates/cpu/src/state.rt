@@ -1,8 +1,10 @@
 // What the core contains.
-ghost use Rattle.std.specs.Prelude.{◌≡◌, slice_index_or, slice_set};
+ghost use Rattle.std.specs.Prelude.{◌≡◌, Some, slice_index_or, slice_set};
+ghost use Rattle.cpu.specs.Names.{mode_name};
 ghost use Rattle.cpu.specs.State.{cleared, register, with_register};
 
 use marks::Marked;
+use std::fmt;
 use units::unit::Status;
 
 // What the core is doing.
@@ -13,6 +15,20 @@ pub enum Mode {
     Waiting,
     Ended,
     Faulted,
+}
+
+impl fmt::Display for Mode {
+    ghost output = { λ m. Some (mode_name m) };
+
+    fn fmt<W: fmt::Write>(&self, f: &mut fmt::Formatter<W>) -> fmt::Result {
+        f.write_str(match self {
+            Mode::Idle => "idle",
+            Mode::Going => "going",
+            Mode::Waiting => "waiting",
+            Mode::Ended => "ended",
+            Mode::Faulted => "faulted",
+        })
+    }
 }
 
 // What an interrupt saves, and a return from it restores.
