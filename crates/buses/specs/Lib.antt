@@ -1,4 +1,5 @@
 pub mod Cells
+pub mod Changes
 pub mod Laws
 pub mod Memories
 pub mod Numbers

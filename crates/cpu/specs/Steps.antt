@@ -1,5 +1,5 @@
 -- One step of the machine. Assumes nothing.
-use Rattle.std.specs.Prelude.{ℕ, ◌+◌, ◌%◌, Bool, true, false, cond, List, length, Some, None, Ok, Err, Option, Result, nat_lt, slice_index}
+use Rattle.std.specs.Prelude.{ℕ, ◌+◌, ◌%◌, Bool, true, false, cond, List, Some, None, Ok, Err, Option, Result, slice_get}
 use Rattle.buses.specs.Cells.{Cells}
 use Rattle.isa.specs.declared.Instruction.{Instruction}
 use Rattle.isa.specs.declared.Instruction.TheVariants as i
@@ -91,13 +91,9 @@ cycles_of (i.Sys byte) = 2
 cycles_of (i.Psh src) = 1
 cycles_of (i.Pop dst) = 1
 
--- a byte of the program; there is none past its end
-abbrev pub byte_at : List ℕ → ℕ → Option ℕ
-byte_at program n = cond (nat_lt n (length program)) (Some (slice_index program n)) None
-
--- the instruction at pc, which counts modulo 4,096
+-- the instruction at pc, which counts modulo 4,096; there is no byte past the program's end
 abbrev pub fetched : List ℕ → ℕ → Result Instruction Stop
-fetched program pc = from of_core (decoded (byte_at program pc) (byte_at program ((pc + 1) % 4096)))
+fetched program pc = from of_core (decoded (slice_get program pc) (slice_get program ((pc + 1) % 4096)))
 
 abbrev pub advanced : State → ℕ → State
 advanced s n = over s (with_pc s.core ((s.core.pc + n) % 4096)) s.cells

@@ -2,7 +2,7 @@
 ghost use Rattle.std.specs.Prelude.{◌≡◌};
 ghost use Rattle.cpu.specs.Faults.{or_stop};
 ghost use Rattle.cpu.specs.Instructions.{branched, called, returned, steered, Writable};
-ghost use Rattle.cpu.specs.Outcomes.{told, left, left_first, left_second};
+ghost use Rattle.cpu.specs.Outcomes.{Does, DoesOnBus};
 
 use super::faults::Cause;
 use super::memory::{read, write};
@@ -34,8 +34,7 @@ fn shown(value: Marked) -> Result<u8, Cause>
 impl Core {
     // A held flag stops the branch, whether or not it would be taken.
     pub(crate) fn branch(&mut self, flag: Flag, target: u16) -> Result<(), Cause>
-        ensures told { or_stop result ≡ told (branched self.old flag target) }
-        ensures core { self.new ≡ left self.old (branched self.old flag target) }
+        ensures { Does self.old self.new result (branched self.old flag target) }
     {
         if self.status.low.mark.is_held() {
             return Err(Cause::HeldBranch);
@@ -48,10 +47,7 @@ impl Core {
 
     // Both cells are asked before one is written.
     pub(crate) fn jsr<B: Bus>(&mut self, bus: &mut B, target: u16) -> Result<(), Cause>
-        ensures told { or_stop result ≡ told (called self.old (B.Bus.cells bus.old) target) }
-        ensures core { self.new ≡ left_first self.old (called self.old (B.Bus.cells bus.old) target) }
-        ensures cells { B.Bus.cells bus.new ≡ left_second (B.Bus.cells bus.old) (called self.old (B.Bus.cells bus.old) target) }
-        ensures hidden { B.Bus.hidden bus.new ≡ B.Bus.hidden bus.old }
+        ensures { DoesOnBus B.Bus self.old self.new bus.old bus.new result (called self.old (B.Bus.cells bus.old) target) }
     {
         let first = self.sp;
         let second = first.wrapping_sub(1);
@@ -66,8 +62,7 @@ impl Core {
 
     // The first byte is checked fully before the second.
     pub(crate) fn ret<B: Bus>(&mut self, bus: &B) -> Result<(), Cause>
-        ensures told { or_stop result ≡ told (returned self.old (B.Bus.cells bus.now)) }
-        ensures core { self.new ≡ left self.old (returned self.old (B.Bus.cells bus.now)) }
+        ensures { Does self.old self.new result (returned self.old (B.Bus.cells bus.now)) }
     {
         let first = self.sp.wrapping_add(1);
         let second = first.wrapping_add(1);

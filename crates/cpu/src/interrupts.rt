@@ -1,9 +1,8 @@
 // Taking an interrupt, returning from it, and the lines that are enabled.
 ghost use Rattle.std.specs.Prelude.{◌≡◌};
-ghost use Rattle.cpu.specs.Faults.{or_stop};
 ghost use Rattle.cpu.specs.Instructions.{enabled_read, enabled_set, pairs_copied, resumed};
 ghost use Rattle.cpu.specs.Interrupts.{lowest, due, taken, LowestDue};
-ghost use Rattle.cpu.specs.Outcomes.{told, left};
+ghost use Rattle.cpu.specs.Outcomes.{Does};
 
 use super::faults::Cause;
 use super::state::{Core, Mode, at, put_at};
@@ -54,8 +53,7 @@ impl Core {
     }
 
     pub(crate) fn rti(&mut self) -> Result<(), Cause>
-        ensures told { or_stop result ≡ told (resumed self.old) }
-        ensures core { self.new ≡ left self.old (resumed self.old) }
+        ensures { Does self.old self.new result (resumed self.old) }
     {
         if !self.handling {
             return Err(Cause::NoHandler);
@@ -77,8 +75,7 @@ impl Core {
     }
 
     pub(crate) fn sie(&mut self, pair: u8) -> Result<(), Cause>
-        ensures told { or_stop result ≡ told (enabled_set self.old pair) }
-        ensures core { self.new ≡ left self.old (enabled_set self.old pair) }
+        ensures { Does self.old self.new result (enabled_set self.old pair) }
     {
         self.enabled = self.number_in(pair)?;
         Ok(())

@@ -1,14 +1,10 @@
 // The core with its program, its bus and its unit.
-ghost use Rattle.std.specs.Prelude.{◌≡◌, ◌+◌, ◌%◌, None};
-ghost use Rattle.isa.specs.Table.{length_of};
-ghost use Rattle.cpu.specs.declared.state.Mode.TheVariants.{Faulted};
-ghost use Rattle.cpu.specs.Faults.{or_stop, stop_of};
-ghost use Rattle.cpu.specs.Instructions.{served};
+ghost use Rattle.std.specs.Prelude.{◌≡◌, ◌+◌, ◌%◌, ◌^◌, ◌<◌, ◌≤◌, OnErr};
+ghost use Rattle.cpu.specs.Faults.{or_stop};
 ghost use Rattle.cpu.specs.Laws.{RunLaws};
-ghost use Rattle.cpu.specs.Machines.{state_of, told_of, effect_told, state_left, ran_of};
+ghost use Rattle.cpu.specs.Machines.{state_of, service, Keeps, performed_told, told_of, effect_told, state_left, ran_of, attempted, placed, Turned};
 ghost use Rattle.cpu.specs.Runs.{run};
-ghost use Rattle.cpu.specs.Steps.{byte_at, fetched, cycles_of, effect, performed, step, faults};
-ghost use Rattle.cpu.specs.State.{with_mode};
+ghost use Rattle.cpu.specs.Steps.{fetched, cycles_of, effect, performed, step};
 
 use super::faults::{Cause, Fault};
 use super::state::{Core, Mode};
@@ -24,23 +20,11 @@ pub struct Machine<B, U> {
     pub unit: U,
 }
 
-// What came of a step: it was made in so many cycles and may have said a byte, none could be made, or it faulted.
+// A step that was made: its cycles, and the byte that it may have said.
 #[derive(Clone, Copy)]
-pub enum Step {
-    Made(u16, Option<u8>),
-    Waits,
-    Faults(Fault),
-}
-
-// A byte of a program; there is none past its end.
-fn byte_at(program: &[u8], n: usize) -> Option<u8>
-    ensures { result ≡ byte_at program.now n }
-{
-    if n < program.len() {
-        Some(program[n])
-    } else {
-        None
-    }
+pub struct Made {
+    pub cycles: u16,
+    pub said: Option<u8>,
 }
 
 // The place that many bytes on; byte 0 follows byte 4,095.
@@ -54,12 +38,9 @@ fn after(pc: u16, bytes: u16) -> u16
 fn fetch(program: &[u8], pc: u16) -> Result<Instruction, Cause>
     ensures { or_stop result ≡ fetched program.now pc }
 {
-    let first = byte_at(program, pc as usize);
-    let second = byte_at(program, after(pc, 1) as usize);
-    match decode(first, second) {
-        Ok(instruction) => Ok(instruction),
-        Err(refusal) => Err(Cause::Word(refusal)),
-    }
+    let first = program.get(pc as usize).copied();
+    let second = program.get(after(pc, 1) as usize).copied();
+    decode(first, second).map_err(Cause::Word)
 }
 
 // The cycles of an instruction, its wait apart.
@@ -91,33 +72,17 @@ pub struct Run {
     pub ending: Ending,
 }
 
-// What an instruction is told to the step: the cycles that it waits, and the byte that it says.
-#[derive(Clone, Copy)]
-pub(crate) struct Effect {
-    wait: u8,
-    said: Option<u8>,
-}
-
-impl Core {
-    // Stops at the instruction at pc.
-    fn fault(&mut self, cause: Cause) -> Step
-        ensures told { told_of result ≡ faults (record { stop = stop_of cause; pc = self.old.pc }) }
-        ensures core { self.new ≡ with_mode self.old Faulted }
-    {
-        self.mode = Mode::Faulted;
-        Step::Faults(Fault { cause, pc: self.pc })
-    }
-}
-
 impl<B: Bus, U: Unit> Machine<B, U> {
     // Does an instruction, pc being already that of the next one.
-    fn execute(&mut self, instruction: Instruction) -> Result<Effect, Cause>
-        ensures told { or_stop result ≡ effect_told (effect (served U.Unit.operates (U.Unit.codes self.old.unit)) instruction (state_of B.Bus.cells U.Unit.contents self.old)) }
-        ensures state { state_of B.Bus.cells U.Unit.contents self.new ≡ state_left (state_of B.Bus.cells U.Unit.contents self.old) (effect (served U.Unit.operates (U.Unit.codes self.old.unit)) instruction (state_of B.Bus.cells U.Unit.contents self.old)) }
-        ensures program { self.new.program ≡ self.old.program }
-        ensures hidden { B.Bus.hidden self.new.bus ≡ B.Bus.hidden self.old.bus }
-        ensures codes { U.Unit.codes self.new.unit ≡ U.Unit.codes self.old.unit }
+    fn execute(&mut self, instruction: Instruction) -> Result<Made, Cause>
+        ensures told { or_stop result ≡ effect_told instruction (effect (service U.Unit self.old.unit) instruction (state_of B.Bus U.Unit self.old)) }
+        ensures state { state_of B.Bus U.Unit self.new ≡ state_left (state_of B.Bus U.Unit self.old) (effect (service U.Unit self.old.unit) instruction (state_of B.Bus U.Unit self.old)) }
+        ensures keeps { Keeps B.Bus U.Unit self.old self.new }
     {
+        let mut made = Made {
+            cycles: cycles(instruction),
+            said: None,
+        };
         match instruction {
             Instruction::Mvs(top) => self.core.mvs(top),
             Instruction::Mvv(handler, vector) => self.core.mvv(handler, vector),
@@ -148,116 +113,102 @@ impl<B: Bus, U: Unit> Machine<B, U> {
             Instruction::Rti => self.core.rti()?,
             Instruction::Psh(src) => self.core.psh(&mut self.bus, src)?,
             Instruction::Pop(dst) => self.core.pop(&self.bus, dst)?,
-            Instruction::Sys(byte) => {
-                return Ok(Effect {
-                    wait: 0,
-                    said: self.core.sys(byte),
-                });
-            }
+            Instruction::Sys(byte) => made.said = self.core.sys(byte),
             Instruction::Aluc(code, src, dst) => {
-                return Ok(Effect {
-                    wait: self.core.aluc(&mut self.unit, code, src, dst)?,
-                    said: None,
-                });
+                made.cycles += self.core.aluc(&mut self.unit, code, src, dst)? as u16;
             }
         }
-        Ok(Effect {
-            wait: 0,
-            said: None,
-        })
+        Ok(made)
+    }
+
+    // Tries the instruction at pc; where it is stopped, pc may be that of the next one, and all else is as it was.
+    fn attempt(&mut self) -> Result<Made, Cause>
+        ensures performed { attempted (state_of B.Bus U.Unit self.old) (state_of B.Bus U.Unit self.new) result ≡ performed (service U.Unit self.old.unit) (state_of B.Bus U.Unit self.old) (fetched self.old.program.items self.old.core.pc) }
+        ensures stopped { OnErr result (placed (state_of B.Bus U.Unit self.new) self.old.core.pc ≡ state_of B.Bus U.Unit self.old) }
+        ensures keeps { Keeps B.Bus U.Unit self.old self.new }
+    {
+        let instruction = fetch(&self.program, self.core.pc)?;
+        self.core.pc = after(self.core.pc, instruction.length() as u16);
+        self.execute(instruction)
     }
 
     // The instruction at pc runs; where it is stopped, only the mode changes.
-    fn perform(&mut self) -> Step
-        ensures told { told_of result ≡ (performed (served U.Unit.operates (U.Unit.codes self.old.unit)) (state_of B.Bus.cells U.Unit.contents self.old) (fetched self.old.program.items self.old.core.pc)).told }
-        ensures state { state_of B.Bus.cells U.Unit.contents self.new ≡ (performed (served U.Unit.operates (U.Unit.codes self.old.unit)) (state_of B.Bus.cells U.Unit.contents self.old) (fetched self.old.program.items self.old.core.pc)).state }
-        ensures program { self.new.program ≡ self.old.program }
-        ensures hidden { B.Bus.hidden self.new.bus ≡ B.Bus.hidden self.old.bus }
-        ensures codes { U.Unit.codes self.new.unit ≡ U.Unit.codes self.old.unit }
+    fn perform(&mut self) -> Result<Made, Fault>
+        ensures told { performed_told result ≡ (performed (service U.Unit self.old.unit) (state_of B.Bus U.Unit self.old) (fetched self.old.program.items self.old.core.pc)).told }
+        ensures state { state_of B.Bus U.Unit self.new ≡ (performed (service U.Unit self.old.unit) (state_of B.Bus U.Unit self.old) (fetched self.old.program.items self.old.core.pc)).state }
+        ensures keeps { Keeps B.Bus U.Unit self.old self.new }
     {
-        let here = self.core.pc;
-        let instruction = match fetch(&self.program, here) {
-            Ok(instruction) => instruction,
-            Err(cause) => return self.core.fault(cause),
-        };
-        self.core.pc = after(here, instruction.length() as u16);
-        match self.execute(instruction) {
-            Ok(effect) => Step::Made(cycles(instruction) + effect.wait as u16, effect.said),
+        let pc = self.core.pc;
+        match self.attempt() {
+            Ok(made) => Ok(made),
             Err(cause) => {
-                self.core.pc = here;
-                self.core.fault(cause)
+                self.core.pc = pc;
+                self.core.mode = Mode::Faulted;
+                Err(Fault { cause, pc })
             }
         }
     }
 
-    // One step: a line that is due is taken, or the instruction at pc runs, unless the core waits.
-    pub fn step(&mut self) -> Step
-        ensures told { told_of result ≡ (step (served U.Unit.operates (U.Unit.codes self.old.unit)) self.old.program.items (state_of B.Bus.cells U.Unit.contents self.old)).told }
-        ensures state { state_of B.Bus.cells U.Unit.contents self.new ≡ (step (served U.Unit.operates (U.Unit.codes self.old.unit)) self.old.program.items (state_of B.Bus.cells U.Unit.contents self.old)).state }
-        ensures program { self.new.program ≡ self.old.program }
-        ensures hidden { B.Bus.hidden self.new.bus ≡ B.Bus.hidden self.old.bus }
-        ensures codes { U.Unit.codes self.new.unit ≡ U.Unit.codes self.old.unit }
+    // One step, if it can be made: a line that is due is taken, or the instruction at pc runs, unless the core waits.
+    pub fn step(&mut self) -> Result<Option<Made>, Fault>
+        ensures told { told_of result ≡ (step (service U.Unit self.old.unit) self.old.program.items (state_of B.Bus U.Unit self.old)).told }
+        ensures state { state_of B.Bus U.Unit self.new ≡ (step (service U.Unit self.old.unit) self.old.program.items (state_of B.Bus U.Unit self.old)).state }
+        ensures keeps { Keeps B.Bus U.Unit self.old self.new }
     {
         if let Some(line) = self.core.due() {
             self.core.take(line);
-            return Step::Made(0, None);
+            return Ok(Some(Made {
+                cycles: 0,
+                said: None,
+            }));
         }
-        if let Mode::Waiting = self.core.mode {
-            return Step::Waits;
+        if self.core.mode == Mode::Waiting {
+            return Ok(None);
         }
-        self.perform()
+        Ok(Some(self.perform()?))
+    }
+
+    // One step of a run, and how the run ends, if it ends with it.
+    fn turn(&mut self, run: &mut Run) -> Option<Ending>
+        requires steps { run.old.steps + 1 < 2 ^ 32 }
+        requires cycles { run.old.cycles + 65535 < 2 ^ 64 }
+        ensures turned { Turned (service U.Unit self.old.unit) self.old.program.items (state_of B.Bus U.Unit self.old) run.old (state_of B.Bus U.Unit self.new) run.new result }
+        ensures steps { run.new.steps ≤ run.old.steps + 1 }
+        ensures cycles { run.new.cycles ≤ run.old.cycles + 65535 }
+        ensures ending { run.new.ending ≡ run.old.ending }
+        ensures keeps { Keeps B.Bus U.Unit self.old self.new }
+    {
+        let made = match self.step() {
+            Ok(Some(made)) => made,
+            Ok(None) => return Some(Ending::Waiting),
+            Err(fault) => return Some(Ending::Fault(fault)),
+        };
+        run.steps += 1;
+        run.cycles += made.cycles as u64;
+        match made.said {
+            Some(byte) => Some(Ending::Said(byte)),
+            None if self.core.mode == Mode::Ended => Some(Ending::Ended),
+            None => None,
+        }
     }
 
     // Steps until one ends the run or the budget is spent.
     pub fn run(&mut self, budget: u32) -> Run
-        ensures ran { ran_of (state_of B.Bus.cells U.Unit.contents self.new) result ≡ run (served U.Unit.operates (U.Unit.codes self.old.unit)) self.old.program.items budget (state_of B.Bus.cells U.Unit.contents self.old) }
-        ensures program { self.new.program ≡ self.old.program }
-        ensures hidden { B.Bus.hidden self.new.bus ≡ B.Bus.hidden self.old.bus }
-        ensures codes { U.Unit.codes self.new.unit ≡ U.Unit.codes self.old.unit }
-        ensures laws { RunLaws (served U.Unit.operates (U.Unit.codes self.old.unit)) self.old.program.items }
+        ensures ran { ran_of (state_of B.Bus U.Unit self.new) result ≡ run (service U.Unit self.old.unit) self.old.program.items budget (state_of B.Bus U.Unit self.old) }
+        ensures keeps { Keeps B.Bus U.Unit self.old self.new }
+        ensures laws { RunLaws (service U.Unit self.old.unit) self.old.program.items }
     {
-        let mut steps = 0;
-        let mut cycles = 0;
-        while steps < budget {
-            match self.step() {
-                Step::Made(taken, said) => {
-                    steps += 1;
-                    cycles += taken as u64;
-                    if let Some(byte) = said {
-                        return Run {
-                            steps,
-                            cycles,
-                            ending: Ending::Said(byte),
-                        };
-                    }
-                    if let Mode::Ended = self.core.mode {
-                        return Run {
-                            steps,
-                            cycles,
-                            ending: Ending::Ended,
-                        };
-                    }
-                }
-                Step::Waits => {
-                    return Run {
-                        steps,
-                        cycles,
-                        ending: Ending::Waiting,
-                    };
-                }
-                Step::Faults(fault) => {
-                    return Run {
-                        steps,
-                        cycles,
-                        ending: Ending::Fault(fault),
-                    };
-                }
+        let mut run = Run {
+            steps: 0,
+            cycles: 0,
+            ending: Ending::Spent,
+        };
+        for _ in 0..budget {
+            if let Some(ending) = self.turn(&mut run) {
+                run.ending = ending;
+                break;
             }
         }
-        Run {
-            steps,
-            cycles,
-            ending: Ending::Spent,
-        }
+        run
     }
 }

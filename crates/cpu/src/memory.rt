@@ -1,8 +1,9 @@
 // Loads and stores: the mark goes along with the byte.
 ghost use Rattle.std.specs.Prelude.{◌≡◌};
+ghost use Rattle.buses.specs.Changes.{Becomes};
 ghost use Rattle.cpu.specs.Faults.{or_stop};
 ghost use Rattle.cpu.specs.Instructions.{number_in, read_from, written_to, loaded, stored, stepped};
-ghost use Rattle.cpu.specs.Outcomes.{told, left};
+ghost use Rattle.cpu.specs.Outcomes.{told, left, Does};
 
 use super::faults::Cause;
 use super::state::{Core, at, put_at};
@@ -13,22 +14,17 @@ use marks::Marked;
 pub(crate) fn read<B: Bus>(bus: &B, address: u16) -> Result<Marked, Cause>
     ensures { or_stop result ≡ read_from (B.Bus.cells bus.now) address }
 {
-    match bus.read(address) {
-        Ok(value) => Ok(value),
-        Err(refusal) => Err(Cause::Bus(refusal, address)),
-    }
+    bus.read(address)
+        .map_err(|refusal| Cause::Bus(refusal, address))
 }
 
 // Puts a byte into a cell.
 pub(crate) fn write<B: Bus>(bus: &mut B, address: u16, value: Marked) -> Result<(), Cause>
-    ensures told { or_stop result ≡ told (written_to (B.Bus.cells bus.old) address value) }
-    ensures cells { B.Bus.cells bus.new ≡ left (B.Bus.cells bus.old) (written_to (B.Bus.cells bus.old) address value) }
-    ensures hidden { B.Bus.hidden bus.new ≡ B.Bus.hidden bus.old }
+    ensures tells { or_stop result ≡ told (written_to (B.Bus.cells bus.old) address value) }
+    ensures becomes { Becomes B.Bus bus.old bus.new (left (B.Bus.cells bus.old) (written_to (B.Bus.cells bus.old) address value)) }
 {
-    match bus.write(address, value) {
-        Ok(()) => Ok(()),
-        Err(refusal) => Err(Cause::Bus(refusal, address)),
-    }
+    bus.write(address, value)
+        .map_err(|refusal| Cause::Bus(refusal, address))
 }
 
 impl Core {
@@ -45,8 +41,7 @@ impl Core {
     }
 
     pub(crate) fn ldb<B: Bus>(&mut self, bus: &B, pair: u8, dst: u8) -> Result<(), Cause>
-        ensures told { or_stop result ≡ told (loaded self.old (B.Bus.cells bus.now) pair dst) }
-        ensures core { self.new ≡ left self.old (loaded self.old (B.Bus.cells bus.now) pair dst) }
+        ensures { Does self.old self.new result (loaded self.old (B.Bus.cells bus.now) pair dst) }
     {
         let address = self.number_in(pair)?;
         let value = read(bus, address)?;
@@ -55,9 +50,8 @@ impl Core {
     }
 
     pub(crate) fn stb<B: Bus>(&self, bus: &mut B, src: u8, pair: u8) -> Result<(), Cause>
-        ensures told { or_stop result ≡ told (stored self.now (B.Bus.cells bus.old) src pair) }
-        ensures cells { B.Bus.cells bus.new ≡ left (B.Bus.cells bus.old) (stored self.now (B.Bus.cells bus.old) src pair) }
-        ensures hidden { B.Bus.hidden bus.new ≡ B.Bus.hidden bus.old }
+        ensures tells { or_stop result ≡ told (stored self.now (B.Bus.cells bus.old) src pair) }
+        ensures becomes { Becomes B.Bus bus.old bus.new (left (B.Bus.cells bus.old) (stored self.now (B.Bus.cells bus.old) src pair)) }
     {
         let address = self.number_in(pair)?;
         write(bus, address, self.register(src))

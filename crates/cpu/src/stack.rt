@@ -2,7 +2,7 @@
 ghost use Rattle.std.specs.Prelude.{◌≡◌};
 ghost use Rattle.cpu.specs.Faults.{or_stop};
 ghost use Rattle.cpu.specs.Instructions.{pushed, top, popped, status_byte, status_of, status_popped};
-ghost use Rattle.cpu.specs.Outcomes.{told, left, left_first, left_second};
+ghost use Rattle.cpu.specs.Outcomes.{Does, DoesOnBus};
 ghost use Rattle.cpu.specs.State.{register};
 
 use super::faults::Cause;
@@ -42,10 +42,7 @@ impl Core {
     }
 
     pub(crate) fn push<B: Bus>(&mut self, bus: &mut B, value: Marked) -> Result<(), Cause>
-        ensures told { or_stop result ≡ told (pushed self.old (B.Bus.cells bus.old) value) }
-        ensures core { self.new ≡ left_first self.old (pushed self.old (B.Bus.cells bus.old) value) }
-        ensures cells { B.Bus.cells bus.new ≡ left_second (B.Bus.cells bus.old) (pushed self.old (B.Bus.cells bus.old) value) }
-        ensures hidden { B.Bus.hidden bus.new ≡ B.Bus.hidden bus.old }
+        ensures { DoesOnBus B.Bus self.old self.new bus.old bus.new result (pushed self.old (B.Bus.cells bus.old) value) }
     {
         write(bus, self.sp, value)?;
         self.sp = self.sp.wrapping_sub(1);
@@ -60,26 +57,19 @@ impl Core {
     }
 
     pub(crate) fn psh<B: Bus>(&mut self, bus: &mut B, src: u8) -> Result<(), Cause>
-        ensures told { or_stop result ≡ told (pushed self.old (B.Bus.cells bus.old) (register self.old src)) }
-        ensures core { self.new ≡ left_first self.old (pushed self.old (B.Bus.cells bus.old) (register self.old src)) }
-        ensures cells { B.Bus.cells bus.new ≡ left_second (B.Bus.cells bus.old) (pushed self.old (B.Bus.cells bus.old) (register self.old src)) }
-        ensures hidden { B.Bus.hidden bus.new ≡ B.Bus.hidden bus.old }
+        ensures { DoesOnBus B.Bus self.old self.new bus.old bus.new result (pushed self.old (B.Bus.cells bus.old) (register self.old src)) }
     {
         self.push(bus, self.register(src))
     }
 
     pub(crate) fn str<B: Bus>(&mut self, bus: &mut B) -> Result<(), Cause>
-        ensures told { or_stop result ≡ told (pushed self.old (B.Bus.cells bus.old) (status_byte self.old.status)) }
-        ensures core { self.new ≡ left_first self.old (pushed self.old (B.Bus.cells bus.old) (status_byte self.old.status)) }
-        ensures cells { B.Bus.cells bus.new ≡ left_second (B.Bus.cells bus.old) (pushed self.old (B.Bus.cells bus.old) (status_byte self.old.status)) }
-        ensures hidden { B.Bus.hidden bus.new ≡ B.Bus.hidden bus.old }
+        ensures { DoesOnBus B.Bus self.old self.new bus.old bus.new result (pushed self.old (B.Bus.cells bus.old) (status_byte self.old.status)) }
     {
         self.push(bus, self.status_byte())
     }
 
     pub(crate) fn pop<B: Bus>(&mut self, bus: &B, dst: u8) -> Result<(), Cause>
-        ensures told { or_stop result ≡ told (popped self.old (B.Bus.cells bus.now) dst) }
-        ensures core { self.new ≡ left self.old (popped self.old (B.Bus.cells bus.now) dst) }
+        ensures { Does self.old self.new result (popped self.old (B.Bus.cells bus.now) dst) }
     {
         let value = self.top(bus)?;
         self.sp = self.sp.wrapping_add(1);
@@ -88,8 +78,7 @@ impl Core {
     }
 
     pub(crate) fn lsr<B: Bus>(&mut self, bus: &B) -> Result<(), Cause>
-        ensures told { or_stop result ≡ told (status_popped self.old (B.Bus.cells bus.now)) }
-        ensures core { self.new ≡ left self.old (status_popped self.old (B.Bus.cells bus.now)) }
+        ensures { Does self.old self.new result (status_popped self.old (B.Bus.cells bus.now)) }
     {
         let value = self.top(bus)?;
         self.sp = self.sp.wrapping_add(1);

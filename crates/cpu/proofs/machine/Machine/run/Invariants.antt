@@ -1,21 +1,18 @@
 -- The steps made, and then a run of what is left of the budget, are the whole run. Assumes nothing.
-use Rattle.std.proofs.Common.{◌≡◌, ◌-◌, ◌*◌, ◌≤◌, vec_items}
-use Rattle.cpu.specs.Instructions.{served}
-use Rattle.cpu.specs.Machines.{state_of}
+use Rattle.std.proofs.Common.{◌≡◌, ◌-◌, ◌*◌, ◌≤◌}
+use Rattle.cpu.specs.declared.machine.Ending.TheVariants.{Spent}
+use Rattle.cpu.specs.Machines.{state_of, service, Keeps}
 use Rattle.cpu.specs.Runs.{afterwards, run}
 use Rattle.cpu.proofs.machine.Machine.run.Given as goal
 
-abbrev pub invariant-loop-steps : goal.invariant-loop-steps
-invariant-loop-steps g l =
-    let unit = served g.U.Unit.operates (g.U.Unit.codes l.initial.self.unit) in
-    let program = vec_items l.initial.self.program in
-    let state = state_of g.B.Bus.cells g.U.Unit.contents in
-    (afterwards l.steps l.cycles (run unit program (l.budget - l.steps) (state l.self)) ≡ run unit program l.budget (state l.initial.self))
-    × (l.self.program ≡ l.initial.self.program)
-    × (g.B.Bus.hidden l.self.bus ≡ g.B.Bus.hidden l.initial.self.bus)
-    × (g.U.Unit.codes l.self.unit ≡ g.U.Unit.codes l.initial.self.unit)
-    × (l.steps ≤ l.budget)
-    × (l.cycles ≤ l.steps * 65535)
-
-abbrev pub decreases-loop-steps : goal.decreases-loop-steps
-decreases-loop-steps g l = l.budget - l.steps
+abbrev pub invariant-loop : goal.invariant-loop
+invariant-loop g l =
+    let whole = run (service g.U.Unit l.initial.self.unit) l.initial.self.program.items in
+    record {
+      turned : afterwards l.run.steps l.run.cycles (whole (l.budget - l.counter) (state_of g.B.Bus g.U.Unit l.self)) ≡ whole l.budget (state_of g.B.Bus g.U.Unit l.initial.self);
+      keeps : Keeps g.B.Bus g.U.Unit l.initial.self l.self;
+      steps : l.run.steps ≤ l.counter;
+      cycles : l.run.cycles ≤ l.counter * 65535;
+      counted : l.counter ≤ l.budget;
+      spent : l.run.ending ≡ Spent;
+    }
