@@ -53,16 +53,14 @@ attempted s t (Err cause) = record { state = over s (with_mode s.core Faulted) s
 abbrev pub placed : State → ℕ → State
 placed s pc = over s (with_pc s.core pc) s.cells
 
--- what is told of an instruction that was performed
-abbrev pub performed_told : Result Made Fault → Told
-performed_told (Ok m) = made m.cycles m.said
-performed_told (Err f) = faults (fault_of f)
-
--- and of a step
 abbrev pub told_of : Result (Option Made) Fault → Told
 told_of (Ok (Some m)) = made m.cycles m.said
 told_of (Ok None) = waits
 told_of (Err f) = faults (fault_of f)
+
+-- a step by its answer and by what is left
+abbrev pub stepped_of : State → Result (Option Made) Fault → Stepped
+stepped_of s r = record { state = s; told = told_of r }
 
 abbrev pub ending_of : Ending → run.Ending
 ending_of (ending.Said byte) = said byte

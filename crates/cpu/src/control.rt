@@ -2,7 +2,7 @@
 ghost use Rattle.std.specs.Prelude.{◌≡◌};
 ghost use Rattle.cpu.specs.Faults.{or_stop};
 ghost use Rattle.cpu.specs.Instructions.{branched, called, returned, steered, Writable};
-ghost use Rattle.cpu.specs.Outcomes.{Does, DoesOnBus};
+ghost use Rattle.cpu.specs.Deeds.{Does, DoesOnBus};
 
 use super::faults::Cause;
 use super::memory::{read, write};

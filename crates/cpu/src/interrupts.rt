@@ -2,7 +2,7 @@
 ghost use Rattle.std.specs.Prelude.{◌≡◌};
 ghost use Rattle.cpu.specs.Instructions.{enabled_read, enabled_set, pairs_copied, resumed};
 ghost use Rattle.cpu.specs.Interrupts.{lowest, due, taken, LowestDue};
-ghost use Rattle.cpu.specs.Outcomes.{Does};
+ghost use Rattle.cpu.specs.Deeds.{Does};
 
 use super::faults::Cause;
 use super::state::{Core, Mode, at, put_at};

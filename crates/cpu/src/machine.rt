@@ -2,7 +2,7 @@
 ghost use Rattle.std.specs.Prelude.{◌≡◌, ◌+◌, ◌%◌, ◌^◌, ◌<◌, ◌≤◌, OnErr};
 ghost use Rattle.cpu.specs.Faults.{or_stop};
 ghost use Rattle.cpu.specs.Laws.{RunLaws};
-ghost use Rattle.cpu.specs.Machines.{state_of, service, Keeps, performed_told, told_of, effect_told, state_left, ran_of, attempted, placed, Turned};
+ghost use Rattle.cpu.specs.Machines.{state_of, service, Keeps, stepped_of, effect_told, state_left, ran_of, attempted, placed, Turned};
 ghost use Rattle.cpu.specs.Runs.{run};
 ghost use Rattle.cpu.specs.Steps.{fetched, cycles_of, effect, performed, step};
 
@@ -91,8 +91,8 @@ impl<B: Bus, U: Unit> Machine<B, U> {
             Instruction::Branch(flag, target) => self.core.branch(flag, target)?,
             Instruction::Mvi(byte, dst) => self.core.mvi(byte, dst),
             Instruction::Alu(op, src, dst) => self.core.alu(op, src, dst),
-            Instruction::Adi(amount, dst) => self.core.adi(amount, dst),
-            Instruction::Sbi(amount, dst) => self.core.sbi(amount, dst),
+            Instruction::Adi(amount, dst) => self.core.sum_with_amount(alu::adi, amount, dst),
+            Instruction::Sbi(amount, dst) => self.core.sum_with_amount(alu::sbi, amount, dst),
             Instruction::Mov(src, dst) => self.core.mov(src, dst),
             Instruction::Ldb(pair, dst) => self.core.ldb(&self.bus, pair, dst)?,
             Instruction::Lpb(pair, dst) => {
@@ -132,27 +132,9 @@ impl<B: Bus, U: Unit> Machine<B, U> {
         self.execute(instruction)
     }
 
-    // The instruction at pc runs; where it is stopped, only the mode changes.
-    fn perform(&mut self) -> Result<Made, Fault>
-        ensures told { performed_told result ≡ (performed (service U.Unit self.old.unit) (state_of B.Bus U.Unit self.old) (fetched self.old.program.items self.old.core.pc)).told }
-        ensures state { state_of B.Bus U.Unit self.new ≡ (performed (service U.Unit self.old.unit) (state_of B.Bus U.Unit self.old) (fetched self.old.program.items self.old.core.pc)).state }
-        ensures keeps { Keeps B.Bus U.Unit self.old self.new }
-    {
-        let pc = self.core.pc;
-        match self.attempt() {
-            Ok(made) => Ok(made),
-            Err(cause) => {
-                self.core.pc = pc;
-                self.core.mode = Mode::Faulted;
-                Err(Fault { cause, pc })
-            }
-        }
-    }
-
     // One step, if it can be made: a line that is due is taken, or the instruction at pc runs, unless the core waits.
     pub fn step(&mut self) -> Result<Option<Made>, Fault>
-        ensures told { told_of result ≡ (step (service U.Unit self.old.unit) self.old.program.items (state_of B.Bus U.Unit self.old)).told }
-        ensures state { state_of B.Bus U.Unit self.new ≡ (step (service U.Unit self.old.unit) self.old.program.items (state_of B.Bus U.Unit self.old)).state }
+        ensures stepped { stepped_of (state_of B.Bus U.Unit self.new) result ≡ step (service U.Unit self.old.unit) self.old.program.items (state_of B.Bus U.Unit self.old) }
         ensures keeps { Keeps B.Bus U.Unit self.old self.new }
     {
         if let Some(line) = self.core.due() {
@@ -165,7 +147,15 @@ impl<B: Bus, U: Unit> Machine<B, U> {
         if self.core.mode == Mode::Waiting {
             return Ok(None);
         }
-        Ok(Some(self.perform()?))
+        let pc = self.core.pc;
+        match self.attempt() {
+            Ok(made) => Ok(Some(made)),
+            Err(cause) => {
+                self.core.pc = pc;
+                self.core.mode = Mode::Faulted;
+                Err(Fault { cause, pc })
+            }
+        }
     }
 
     // One step of a run, and how the run ends, if it ends with it.

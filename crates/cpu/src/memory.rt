@@ -3,7 +3,8 @@ ghost use Rattle.std.specs.Prelude.{◌≡◌};
 ghost use Rattle.buses.specs.Changes.{Becomes};
 ghost use Rattle.cpu.specs.Faults.{or_stop};
 ghost use Rattle.cpu.specs.Instructions.{number_in, read_from, written_to, loaded, stored, stepped};
-ghost use Rattle.cpu.specs.Outcomes.{told, left, Does};
+ghost use Rattle.cpu.specs.Outcomes.{told, left};
+ghost use Rattle.cpu.specs.Deeds.{Does};
 
 use super::faults::Cause;
 use super::state::{Core, at, put_at};

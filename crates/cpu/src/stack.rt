@@ -2,7 +2,7 @@
 ghost use Rattle.std.specs.Prelude.{◌≡◌};
 ghost use Rattle.cpu.specs.Faults.{or_stop};
 ghost use Rattle.cpu.specs.Instructions.{pushed, top, popped, status_byte, status_of, status_popped};
-ghost use Rattle.cpu.specs.Outcomes.{Does, DoesOnBus};
+ghost use Rattle.cpu.specs.Deeds.{Does, DoesOnBus};
 ghost use Rattle.cpu.specs.State.{register};
 
 use super::faults::Cause;

@@ -1,7 +1,8 @@
 // Sums and differences: a result and the low flags, with the joined mark of what they were worked out from.
-ghost use Rattle.std.specs.Prelude.{◌≡◌};
+ghost use Rattle.std.specs.Prelude.{◌≡◌, ℕ};
 ghost use Rattle.isa.specs.declared.Flag.TheVariants.{Carry};
-ghost use Rattle.cpu.specs.Instructions.{summed, is_set, both_marks, three_marks, added, subtracted, added_with_carry, subtracted_with_carry, amount_added, amount_subtracted};
+ghost use Rattle.cpu.specs.Instructions.{summed, is_set, byte_of, both_marks, three_marks};
+ghost use Rattle.cpu.specs.State.{register};
 
 use super::state::Core;
 use isa::Flag;
@@ -48,49 +49,42 @@ impl Core {
         };
     }
 
-    pub(crate) fn add(&mut self, src: u8, dst: u8)
-        ensures { self.new ≡ added self.old src dst }
+    // A sum or a difference of two registers.
+    pub(crate) fn sum<F: Fn(u8, u8) -> (u8, u8)>(&mut self, leaf: F, src: u8, dst: u8)
+        requires { F.IsAlwaysCallable leaf }
+        ensures { (answer : ℕ × ℕ) × F.post leaf (byte_of self.old src) (byte_of self.old dst) answer × (self.new ≡ summed self.old dst (both_marks self.old src dst) answer) }
     {
-        let (byte, flags) = alu::add(self.register(src).byte, self.register(dst).byte);
+        let (byte, flags) = leaf(self.register(src).byte, self.register(dst).byte);
         self.settle(dst, self.both_marks(src, dst), byte, flags);
     }
 
-    pub(crate) fn sub(&mut self, src: u8, dst: u8)
-        ensures { self.new ≡ subtracted self.old src dst }
-    {
-        let (byte, flags) = alu::sub(self.register(src).byte, self.register(dst).byte);
-        self.settle(dst, self.both_marks(src, dst), byte, flags);
-    }
-
-    pub(crate) fn adc(&mut self, src: u8, dst: u8)
-        ensures { self.new ≡ added_with_carry self.old src dst }
+    // One that also goes by C.
+    pub(crate) fn sum_with_carry<F: Fn(u8, u8, bool) -> (u8, u8)>(
+        &mut self,
+        leaf: F,
+        src: u8,
+        dst: u8,
+    )
+        requires { F.IsAlwaysCallable leaf }
+        ensures { (answer : ℕ × ℕ) × F.post leaf (byte_of self.old src) (byte_of self.old dst) (is_set self.old Carry) answer × (self.new ≡ summed self.old dst (three_marks self.old src dst) answer) }
     {
         let carry = self.is_set(Flag::Carry);
-        let (byte, flags) = alu::adc(self.register(src).byte, self.register(dst).byte, carry);
+        let (byte, flags) = leaf(self.register(src).byte, self.register(dst).byte, carry);
         self.settle(dst, self.three_marks(src, dst), byte, flags);
     }
 
-    pub(crate) fn sbc(&mut self, src: u8, dst: u8)
-        ensures { self.new ≡ subtracted_with_carry self.old src dst }
-    {
-        let borrow = self.is_set(Flag::Carry);
-        let (byte, flags) = alu::sbc(self.register(src).byte, self.register(dst).byte, borrow);
-        self.settle(dst, self.three_marks(src, dst), byte, flags);
-    }
-
-    pub(crate) fn adi(&mut self, amount: u8, dst: u8)
-        ensures { self.new ≡ amount_added self.old amount dst }
-    {
-        let a = self.register(dst);
-        let (byte, flags) = alu::adi(a.byte, amount);
-        self.settle(dst, a.mark, byte, flags);
-    }
-
-    pub(crate) fn sbi(&mut self, amount: u8, dst: u8)
-        ensures { self.new ≡ amount_subtracted self.old amount dst }
+    // A sum or a difference of a register and an immediate.
+    pub(crate) fn sum_with_amount<F: Fn(u8, u8) -> (u8, u8)>(
+        &mut self,
+        leaf: F,
+        amount: u8,
+        dst: u8,
+    )
+        requires { F.IsAlwaysCallable leaf }
+        ensures { (answer : ℕ × ℕ) × F.post leaf (byte_of self.old dst) amount answer × (self.new ≡ summed self.old dst (register self.old dst).mark answer) }
     {
         let a = self.register(dst);
-        let (byte, flags) = alu::sbi(a.byte, amount);
+        let (byte, flags) = leaf(a.byte, amount);
         self.settle(dst, a.mark, byte, flags);
     }
 }
