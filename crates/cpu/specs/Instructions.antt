@@ -13,6 +13,7 @@ use Rattle.buses.specs.Cells.{Cells, read_cell, write_cell, put_at}
 use Rattle.units.specs.declared.unit.Reply.{Reply}
 use Rattle.units.specs.declared.unit.Status.{Status}
 use Rattle.units.specs.Meaning.{Contents, Operands, Meaning, operands}
+use Rattle.units.specs.Registers.{status_of}
 use Rattle.cpu.specs.declared.state.Core.{Core}
 use Rattle.cpu.specs.declared.state.Mode.TheVariants.{Ended}
 use Rattle.cpu.specs.Faults.{Stop, stop, of_core, of_bus, of_unit, from, and_then}
@@ -149,12 +150,9 @@ stepped c pair = with_register c pair (marked ((byte_of c pair + 1) % 256) (regi
 
 -- Stack
 
--- sr as a byte with the joined mark of its groups, and back
+-- sr as a byte with the joined mark of its groups
 abbrev pub status_byte : Status → Marked
 status_byte s = marked ((s.high.byte * 16 + s.low.byte) % 256) (join s.high.mark s.low.mark)
-
-abbrev pub status_of : Marked → Status
-status_of m = record { high = marked (m.byte / 16) m.mark; low = marked (m.byte % 16) m.mark }
 
 -- psh, str: into the cell at sp, which then goes down
 abbrev pub pushed : Core → Cells → Marked → Result (Core × Cells) Stop

@@ -19,6 +19,7 @@ use Rattle.cpu.specs.Runs.{said, ended, spent, waiting, fault, ran, afterwards, 
 use Rattle.cpu.specs.State.{State, with_mode, with_pc}
 use Rattle.cpu.specs.Steps.{Effect, cycles_of, Told, made, waits, faults, Stepped, over, step}
 
+-- a definition and no Model of the machine, since cells are a function, which no code can hold
 abbrev pub state_of : {B U : Type 0} → bus.Ghosts B → unit.Ghosts U → Machine B U → State
 state_of bus unit m = record { core = m.core; cells = bus.cells m.bus; contents = unit.contents m.unit }
 

@@ -4,9 +4,8 @@ ghost use Rattle.cpu.specs.Instructions.{extended};
 ghost use Rattle.cpu.specs.Machines.{service};
 
 use super::faults::Cause;
-use super::stack::status_of;
 use super::state::Core;
-use units::unit::Unit;
+use units::unit::{Status, Unit};
 
 impl Core {
     // Answers the cycles to wait.
@@ -24,7 +23,7 @@ impl Core {
             .map_err(|refusal| Cause::Unit(refusal, code))?;
         self.put(dst, reply.result);
         if let Some(flags) = reply.flags {
-            self.status = status_of(flags);
+            self.status = Status::from(flags);
         }
         Ok(reply.wait)
     }

@@ -1,7 +1,7 @@
 // The stack grows downwards, and sp is the cell that the next byte goes to.
 ghost use Rattle.std.specs.Prelude.{◌≡◌};
 ghost use Rattle.cpu.specs.Faults.{or_stop};
-ghost use Rattle.cpu.specs.Instructions.{pushed, top, popped, status_byte, status_of, status_popped};
+ghost use Rattle.cpu.specs.Instructions.{pushed, top, popped, status_byte, status_popped};
 ghost use Rattle.cpu.specs.Deeds.{Does, DoesOnBus};
 ghost use Rattle.cpu.specs.State.{register};
 
@@ -11,22 +11,6 @@ use super::state::Core;
 use buses::bus::Bus;
 use marks::Marked;
 use units::unit::Status;
-
-// The status register of a byte: both groups have its mark.
-pub(crate) fn status_of(value: Marked) -> Status
-    ensures { result ≡ status_of value }
-{
-    Status {
-        high: Marked {
-            byte: value.byte / 16,
-            mark: value.mark,
-        },
-        low: Marked {
-            byte: value.byte % 16,
-            mark: value.mark,
-        },
-    }
-}
 
 impl Core {
     // The status register as a byte, with the joined mark of its groups.
@@ -82,7 +66,7 @@ impl Core {
     {
         let value = self.top(bus)?;
         self.sp = self.sp.wrapping_add(1);
-        self.status = status_of(value);
+        self.status = Status::from(value);
         Ok(())
     }
 }

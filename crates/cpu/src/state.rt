@@ -52,6 +52,7 @@ pub struct Core {
     pub saved: Saved,
     pub pairs: u8,
     pub mode: Mode,
+    // No Option of what is saved: that stays after a return from the handler, and a start.
     pub handling: bool,
 }
 
@@ -59,13 +60,14 @@ pub struct Core {
 pub(crate) fn at<T: Copy>(places: &[T], n: usize, default: T) -> T
     ensures { result ≡ slice_index_or places.now n default }
 {
-    if n < places.len() { places[n] } else { default }
+    places.get(n).copied().unwrap_or(default)
 }
 
 // Replaces the n-th of these, where it is there.
 pub(crate) fn put_at<T: Copy>(places: &mut [T], n: usize, value: T)
     ensures { places.new ≡ slice_set places.old n value }
 {
+    // No get_mut: its contract does not say what the slice is afterwards.
     if n < places.len() {
         places[n] = value;
     }
