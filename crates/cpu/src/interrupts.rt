@@ -19,6 +19,7 @@ fn lowest(lines: u16) -> Option<u8>
 }
 
 // Copies the first pairs of one set of registers into another.
+// By number, as the halves of a pair lie apart and may be past the end: slices would have to be cut to fit, which is no plainer.
 fn copy_pairs(pairs: u8, source: &[Marked], target: &mut [Marked])
     ensures { target.new ≡ pairs_copied pairs source.now target.old }
 {

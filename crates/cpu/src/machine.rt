@@ -10,7 +10,7 @@ use super::faults::{Cause, Fault};
 use super::state::{Core, Mode};
 use buses::bus::Bus;
 use isa::{Instruction, decode};
-use units::unit::Unit;
+use units::unit::{Status, Unit};
 
 #[derive(Drop)]
 pub struct Machine<B, U> {
@@ -105,14 +105,26 @@ impl<B: Bus, U: Unit> Machine<B, U> {
                 self.core.advance(pair);
             }
             Instruction::Ret => self.core.ret(&self.bus)?,
-            Instruction::Str => self.core.str(&mut self.bus)?,
-            Instruction::Lsr => self.core.lsr(&self.bus)?,
+            Instruction::Str => {
+                let value = self.core.status_byte();
+                self.core.push(&mut self.bus, value)?;
+            }
+            Instruction::Lsr => {
+                let value = self.core.pop(&self.bus)?;
+                self.core.status = Status::from(value);
+            }
             Instruction::Rie(pair) => self.core.rie(pair),
             Instruction::Sie(pair) => self.core.sie(pair)?,
             Instruction::Hlt => self.core.mode = Mode::Waiting,
             Instruction::Rti => self.core.rti()?,
-            Instruction::Psh(src) => self.core.psh(&mut self.bus, src)?,
-            Instruction::Pop(dst) => self.core.pop(&self.bus, dst)?,
+            Instruction::Psh(src) => {
+                let value = self.core.register(src);
+                self.core.push(&mut self.bus, value)?;
+            }
+            Instruction::Pop(dst) => {
+                let value = self.core.pop(&self.bus)?;
+                self.core.put(dst, value);
+            }
             Instruction::Sys(byte) => made.said = self.core.sys(byte),
             Instruction::Aluc(code, src, dst) => {
                 made.cycles += self.core.aluc(&mut self.unit, code, src, dst)? as u16;
