@@ -156,7 +156,7 @@ impl<B: Bus, U: Unit> Terminal<B, U> {
         }
         let value = Marked {
             byte,
-            mark: interval.seal.mark(),
+            mark: interval.seal.into(),
         };
         enter(
             &mut self.machine.bus,
