@@ -14,6 +14,8 @@ use Rattle.terminal.specs.declared.calls.Call.TheVariants as call
 use Rattle.terminal.specs.declared.calls.Refusal.{Refusal}
 use Rattle.terminal.specs.declared.calls.Standing.{Standing}
 use Rattle.terminal.specs.declared.calls.Unclosed.{Unclosed}
+use Rattle.terminal.specs.declared.calls.Unmade.{Unmade}
+use Rattle.terminal.specs.declared.calls.Unmade.TheVariants as unmade
 use Rattle.terminal.specs.declared.interval.Interval.{Interval}
 use Rattle.terminal.specs.Calls.{Call, load, start, raise, run, put, opening, entry, close, cell, register, status, Answer, done, opened, ran, byte, stands, refused, unclosed, respond}
 use Rattle.terminal.specs.Numbers.{number}
@@ -49,14 +51,14 @@ ran_of (Err e) = refused (number e)
 abbrev pub stands_of : Standing → Answer
 stands_of s = stands s.mode s.pc s.sp s.enabled s.latched s.handling
 
-abbrev pub answer_of : code_answer.Answer → Answer
-answer_of answer.Done = done
-answer_of (answer.Opened i) = opened i
-answer_of (answer.Ran r) = run_of r
-answer_of (answer.Byte b) = byte b
-answer_of (answer.Stands s) = stands_of s
-answer_of (answer.Refused e) = refused (number e)
-answer_of (answer.Unclosed u) = unclosed_of u
+abbrev pub answer_of : Result code_answer.Answer Unmade → Answer
+answer_of (Ok answer.Done) = done
+answer_of (Ok (answer.Opened i)) = opened i
+answer_of (Ok (answer.Ran r)) = run_of r
+answer_of (Ok (answer.Byte b)) = byte b
+answer_of (Ok (answer.Stands s)) = stands_of s
+answer_of (Err (unmade.Refused e)) = refused (number e)
+answer_of (Err (unmade.Unclosed u)) = unclosed_of u
 
 -- and each call
 abbrev pub call_of : code_call.Call → Call

@@ -1,4 +1,7 @@
 // What a call may be refused for, and what it answers.
+ghost use Rattle.std.specs.Prelude.{◌≡◌};
+ghost use Rattle.terminal.specs.declared.calls.Unmade.TheVariants as unmade;
+
 use super::interval::{Interval, Seal};
 use cpu::machine::Run;
 use cpu::state::Mode;
@@ -70,6 +73,27 @@ pub enum Answer {
     Ran(Run),
     Byte(u8),
     Stands(Standing),
+}
+
+// Why a call of a list was not made; a close that is refused hands its interval back.
+#[derive(Drop)]
+pub enum Unmade {
     Refused(Refusal),
     Unclosed(Unclosed),
+}
+
+impl From<Refusal> for Unmade {
+    ghost from_gives = { λ refusal why. why ≡ unmade.Refused refusal };
+
+    fn from(refusal: Refusal) -> Unmade {
+        Unmade::Refused(refusal)
+    }
+}
+
+impl From<Unclosed> for Unmade {
+    ghost from_gives = { λ unclosed why. why ≡ unmade.Unclosed unclosed };
+
+    fn from(unclosed: Unclosed) -> Unmade {
+        Unmade::Unclosed(unclosed)
+    }
 }

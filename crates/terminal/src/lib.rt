@@ -13,7 +13,7 @@ mod cells;
 pub mod interval;
 
 use buses::bus::Bus;
-use calls::{Answer, Call, Refusal, Standing, Unclosed};
+use calls::{Answer, Call, Refusal, Standing, Unclosed, Unmade};
 use cells::{check, enter, lift, shown};
 use cpu::machine::{Machine, Run};
 use cpu::state::{Core, Mode};
@@ -21,36 +21,6 @@ use interval::{Interval, Seal};
 use marks::Marked;
 use std::alloc::{AllocError, Global};
 use units::unit::Unit;
-
-// The answer of a call that is done or refused.
-fn done(res: Result<(), Refusal>) -> Answer
-    ensures { answer_of result ≡ done_of res }
-{
-    if let Err(refusal) = res {
-        return Answer::Refused(refusal);
-    }
-    Answer::Done
-}
-
-// The answer of a call that shows a byte.
-fn shown_byte(res: Result<u8, Refusal>) -> Answer
-    ensures { answer_of result ≡ byte_of res }
-{
-    match res {
-        Ok(byte) => Answer::Byte(byte),
-        Err(refusal) => Answer::Refused(refusal),
-    }
-}
-
-// The answer of a close.
-fn closed(res: Result<(), Unclosed>) -> Answer
-    ensures { answer_of result ≡ closed_of res }
-{
-    match res {
-        Ok(()) => Answer::Done,
-        Err(unclosed) => Answer::Unclosed(unclosed),
-    }
-}
 
 #[derive(Drop)]
 pub struct Terminal<B, U> {
@@ -217,32 +187,33 @@ impl<B: Bus, U: Unit> Terminal<B, U> {
     }
 
     // Makes a call of a list.
-    fn respond(&mut self, call: Call<'_>) -> Answer
+    fn respond(&mut self, call: Call<'_>) -> Result<Answer, Unmade>
         ensures { Responds B.Bus.cells B.Bus.hidden U.Unit.contents U.Unit.codes U.Unit.operates self.old self.new (call_of call.entry) (answer_of result) }
     {
         match call {
-            Call::Load(pairs, program) => done(self.load(pairs, program)),
-            Call::Start => done(self.start()),
-            Call::Raise(line) => done(self.raise(line)),
-            Call::Run(budget) => match self.run(budget) {
-                Ok(run) => Answer::Ran(run),
-                Err(refusal) => Answer::Refused(refusal),
-            },
-            Call::Put(address, byte) => done(self.put(address, byte)),
-            Call::Open(seal, first, count) => match self.open(seal, first, count) {
-                Ok(interval) => Answer::Opened(interval),
-                Err(refusal) => Answer::Refused(refusal),
-            },
-            Call::Entry(interval, offset, byte) => done(self.entry(interval, offset, byte)),
-            Call::Close(interval) => closed(self.close(interval)),
-            Call::Cell(address) => shown_byte(self.cell(address)),
-            Call::Register(number) => shown_byte(self.register(number)),
-            Call::Status => Answer::Stands(self.status()),
+            Call::Load(pairs, program) => self.load(pairs, program)?,
+            Call::Start => self.start()?,
+            Call::Raise(line) => self.raise(line)?,
+            Call::Run(budget) => return Ok(Answer::Ran(self.run(budget)?)),
+            Call::Put(address, byte) => self.put(address, byte)?,
+            Call::Open(seal, first, count) => {
+                return Ok(Answer::Opened(self.open(seal, first, count)?));
+            }
+            Call::Entry(interval, offset, byte) => self.entry(interval, offset, byte)?,
+            Call::Close(interval) => self.close(interval)?,
+            Call::Cell(address) => return Ok(Answer::Byte(self.cell(address)?)),
+            Call::Register(number) => return Ok(Answer::Byte(self.register(number)?)),
+            Call::Status => return Ok(Answer::Stands(self.status())),
         }
+        Ok(Answer::Done)
     }
 
     // Makes a list of calls and answers each. Room for all answers is found first, so want of memory changes nothing.
-    pub fn perform(&mut self, heap: Global, calls: Vec<Call<'_>>) -> Result<Vec<Answer>, AllocError>
+    pub fn perform(
+        &mut self,
+        heap: Global,
+        calls: Vec<Call<'_>>,
+    ) -> Result<Vec<Result<Answer, Unmade>>, AllocError>
         ensures answers { IfOk result (λ v. map answer_of v.items ≡ (performed (served U.Unit.operates (U.Unit.codes self.old.machine.unit)) (map call_of calls.entry.items) (terminal_of B.Bus.cells U.Unit.contents self.old)).0) }
         ensures leaves { terminal_of B.Bus.cells U.Unit.contents self.new ≡ (if is_ok result then (performed (served U.Unit.operates (U.Unit.codes self.old.machine.unit)) (map call_of calls.entry.items) (terminal_of B.Bus.cells U.Unit.contents self.old)).1 else terminal_of B.Bus.cells U.Unit.contents self.old) }
         ensures hides { B.Bus.hidden self.new.machine.bus ≡ B.Bus.hidden self.old.machine.bus }

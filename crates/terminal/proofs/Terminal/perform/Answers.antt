@@ -1,9 +1,10 @@
 -- The calls of a list in turn, and the two theorems. Assumes nothing.
-use Rattle.std.proofs.Common.{◌≡◌, List, [], ◌∷◌, ◌++◌, map, length, vec_items, sym, refl, ap, ◌∙◌, arith}
+use Rattle.std.proofs.Common.{◌≡◌, List, [], ◌∷◌, ◌++◌, map, length, Result, vec_items, sym, refl, ap, ◌∙◌, arith}
 use Rattle.std.proofs.lemmas.List.{map-append}
 use Rattle.std.proofs.lemmas.Result.{err_from_is_err_and}
 use Rattle.cpu.specs.Instructions.{served}
 use Rattle.terminal.specs.declared.calls.Answer.{Answer}
+use Rattle.terminal.specs.declared.calls.Unmade.{Unmade}
 use Rattle.terminal.specs.declared.calls.Call.{Call}
 use Rattle.terminal.specs.Calls.{performed}
 use Rattle.terminal.specs.Responses.{answer_of, call_of, terminal_of}
@@ -29,7 +30,7 @@ loop-call-init g c =
     let all = performed (served g.U.Unit.operates (g.U.Unit.codes c.args.self.now.machine.unit)) (map call_of c.into_iter-call-iterator.result.rest.items) (terminal_of g.B.Bus.cells g.U.Unit.contents c.args.self.now) in
     let new = c.in_ok-answers.ensures in
     let many = ap length c.into_iter-call-iterator.ensures.into_iter_gives.0 in
-    (tt, tt, ap (λ (xs : List Answer). after (map answer_of xs) all) new.items, refl, refl, omega (arith, new.len, new.capacity, many, c.args.calls.ok.0, c.len.ensures))
+    (tt, tt, ap (λ (xs : List (Result Answer Unmade)). after (map answer_of xs) all) new.items, refl, refl, omega (arith, new.len, new.capacity, many, c.args.calls.ok.0, c.len.ensures))
 
 pub push_reserved-requires : goal.push_reserved-requires
 push_reserved-requires g c = omega (arith, c.loop-call.invariant.5, ap length c.in-Some.ensures.steps.0)
