@@ -1,9 +1,13 @@
 -- An interval whose cells were checked has plain cells only. Assumes nothing.
-use Rattle.std.proofs.Common.{◌≡◌, ℕ, zero, suc, ◌+◌, ◌%◌, ◌<◌, get_or, Ok, Err, Result, refl, ap, ◌∙◌, arith}
+use Rattle.std.proofs.Common.{◌≡◌, ℕ, zero, suc, ◌+◌, ◌-◌, ◌%◌, ◌<◌, ◌∷◌, get_or, is_ok, Ok, Err, Result, refl, ap, ◌∙◌, arith}
 use Rattle.marks.specs.declared.Marked.{Marked}
 use Rattle.buses.specs.Cells.{Cell, Cells, absent, plain, board, write_cell, put_at, settled}
 use Rattle.buses.specs.Cells as bus
+use Rattle.buses.specs.Numbers as bus_numbers
+use Rattle.buses.specs.declared.bus.Refusal as bus_refusal
 use Rattle.cpu.specs.Instructions.{above}
+use Rattle.terminal.specs.declared.calls.Refusal.{Refusal}
+use Rattle.terminal.specs.Numbers.{numbered}
 use Rattle.terminal.specs.Terminals.{addresses, and_then, cells_entered, cells_written, checked, is_plain, left, told}
 
 -- an answer with two parts has both
@@ -14,6 +18,13 @@ first_ok (Err n) s x e = absurd (let z : ◌≡◌ {A = ℕ} 0 1 = cc in omega a
 pub second_ok : {A : Type 0} (r : Result (Unit {0}) ℕ) (s : Result A ℕ) (x : A) → and_then r (λ _. s) ≡ Ok x → s ≡ Ok x
 second_ok (Ok u) s x e = e
 second_ok (Err n) s x e = absurd (let z : ◌≡◌ {A = ℕ} 0 1 = cc in omega arith)
+
+-- from an offset on: the cell there, and then the rest
+pub from_offset : (first count k : ℕ) → k < count → addresses ((first + k) % 65536) (count - k) ≡ ((first + k) % 65536 ∷ addresses ((first + (k + 1)) % 65536) (count - (k + 1)))
+from_offset first count k less =
+    let one-more : count - k ≡ suc (count - (k + 1)) = omega arith in
+    let next : above ((first + k) % 65536) ≡ (first + (k + 1)) % 65536 = omega arith in
+    ap (addresses ((first + k) % 65536)) one-more ∙ ap (λ (a : ℕ). (first + k) % 65536 ∷ addresses a (count - (k + 1))) next
 
 -- the cell at an offset is that many cells on
 pub offset_cell : (first count offset d : ℕ) → first < 65536 → offset < count → get_or (addresses first count) offset d ≡ (first + offset) % 65536
@@ -33,6 +44,12 @@ pub plain_takes : (c : Cell) (m : Marked) → is_plain c ≡ Ok tt → bus.told 
 plain_takes absent m e = absurd (let z : ◌≡◌ {A = ℕ} 0 1 = cc in omega arith)
 plain_takes (plain old) m e = refl
 plain_takes (board b) m e = absurd (let z : ◌≡◌ {A = ℕ} 0 1 = cc in omega arith)
+
+-- a call that is refused where the bus refuses passes where the bus does
+pub passes : (r : Result (Unit {0}) bus_refusal.Refusal) (s : Result (Unit {0}) Refusal) → bus_numbers.numbered r ≡ Ok tt → is_ok s ≡ is_ok r → numbered s ≡ Ok tt
+passes (Ok u) (Ok v) e same = refl
+passes (Ok u) (Err m) e same = absurd (let z : ◌≡◌ {A = ℕ} 0 1 = cc in omega arith)
+passes (Err n) s e same = absurd (let z : ◌≡◌ {A = ℕ} 0 1 = cc in omega arith)
 
 -- what an entry into checked cells does is what the bus does
 pub entered_is : (cells : Cells) (first count offset : ℕ) (m : Marked) → first < 65536 → offset < count → checked cells (addresses first count) ≡ Ok tt → cells_entered cells first count offset m ≡ cells_written cells ((first + offset) % 65536) m

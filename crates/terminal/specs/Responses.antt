@@ -1,9 +1,11 @@
 -- What a method of a terminal promises of its call. Assumes nothing.
-use Rattle.std.specs.Prelude.{◌≡◌, ℕ, Bool, List, [], Ok, Err, vec_items, Result}
+use Rattle.std.specs.Prelude.{◌≡◌, ℕ, List, [], map, Ok, Err, vec_items, Result}
 use Rattle.buses.specs.Cells.{Cells}
-use Rattle.units.specs.Meaning.{Contents, Meaning}
+use Rattle.buses.specs.declared.bus.Bus as bus_of
+use Rattle.units.specs.declared.unit.Unit as unit_of
+use Rattle.units.specs.Meaning.{Contents}
 use Rattle.cpu.specs.declared.machine.Run.{Run}
-use Rattle.cpu.specs.Instructions.{served}
+use Rattle.cpu.specs.Instructions.{Service, served}
 use Rattle.cpu.specs.Machines.{state_of, ending_of}
 use Rattle.cpu.specs.State.{cleared}
 use Rattle.terminal.specs.declared.Terminal as code
@@ -17,22 +19,23 @@ use Rattle.terminal.specs.declared.calls.Unclosed.{Unclosed}
 use Rattle.terminal.specs.declared.calls.Unmade.{Unmade}
 use Rattle.terminal.specs.declared.calls.Unmade.TheVariants as unmade
 use Rattle.terminal.specs.declared.interval.Interval.{Interval}
-use Rattle.terminal.specs.Calls.{Call, load, start, raise, run, put, opening, entry, close, cell, register, status, Answer, done, opened, ran, byte, stands, refused, unclosed, respond}
+use Rattle.terminal.specs.Calls.{Call, load, start, raise, run, put, opening, entry, close, cell, register, status, Answer, done, opened, ran, byte, stands, refused, unclosed, respond, performed}
 use Rattle.terminal.specs.Numbers.{number}
 use Rattle.terminal.specs.Terminals.{Terminal}
 
 -- each answer of the code, by its number and values
+abbrev pub answered : {A : Type 0} → (A → Answer) → Result A Refusal → Answer
+answered answer (Ok x) = answer x
+answered answer (Err e) = refused (number e)
+
 abbrev pub done_of : Result (Unit {0}) Refusal → Answer
-done_of (Ok x) = done
-done_of (Err e) = refused (number e)
+done_of = answered (λ _. done)
 
 abbrev pub byte_of : Result ℕ Refusal → Answer
-byte_of (Ok b) = byte b
-byte_of (Err e) = refused (number e)
+byte_of = answered byte
 
 abbrev pub opened_of : Result Interval Refusal → Answer
-opened_of (Ok i) = opened i
-opened_of (Err e) = refused (number e)
+opened_of = answered opened
 
 abbrev pub unclosed_of : Unclosed → Answer
 unclosed_of u = unclosed (number u.refusal) u.interval
@@ -45,8 +48,7 @@ abbrev pub run_of : Run → Answer
 run_of r = ran r.steps r.cycles (ending_of r.ending)
 
 abbrev pub ran_of : Result Run Refusal → Answer
-ran_of (Ok r) = run_of r
-ran_of (Err e) = refused (number e)
+ran_of = answered run_of
 
 abbrev pub stands_of : Standing → Answer
 stands_of s = stands s.mode s.pc s.sp s.enabled s.latched s.handling
@@ -75,15 +77,23 @@ call_of (call.Register n) = register n
 call_of call.Status = status
 
 -- a terminal of the code, by what it contains
-abbrev pub terminal_of : {B U : Type 0} → (B → Cells) → (U → Contents) → code.Terminal B U → Terminal
-terminal_of cells contents t = record { program = vec_items t.machine.program; machine = state_of cells contents t.machine }
+abbrev pub terminal_of : {B U : Type 0} → bus_of.Ghosts B → unit_of.Ghosts U → code.Terminal B U → Terminal
+terminal_of bus unit t = record { program = vec_items t.machine.program; machine = state_of bus.cells unit.contents t.machine }
+
+-- what a terminal's unit does
+abbrev pub service_of : {B U : Type 0} → unit_of.Ghosts U → code.Terminal B U → Service
+service_of unit t = served unit.operates (unit.codes t.machine.unit)
 
 -- a call: its answer and the terminal afterwards are those that are defined; hidden cells and the unit's codes stay
-pub record Responds {B U : Type 0} (cells : B → Cells) (hidden : B → List Cells) (contents : U → Contents) (codes : U → ℕ → Bool) (op : Meaning) (before after : code.Terminal B U) (k : Call) (a : Answer) : Type 0 where
-  pub answers : a ≡ (respond (served op (codes before.machine.unit)) k (terminal_of cells contents before)).0
-  pub leaves : terminal_of cells contents after ≡ (respond (served op (codes before.machine.unit)) k (terminal_of cells contents before)).1
-  pub hides : hidden after.machine.bus ≡ hidden before.machine.bus
-  pub keeps : codes after.machine.unit ≡ codes before.machine.unit
+pub record Responds {B U : Type 0} (bus : bus_of.Ghosts B) (unit : unit_of.Ghosts U) (before after : code.Terminal B U) (k : Call) (a : Answer) : Type 0 where
+  pub answers : a ≡ (respond (service_of unit before) k (terminal_of bus unit before)).0
+  pub leaves : terminal_of bus unit after ≡ (respond (service_of unit before) k (terminal_of bus unit before)).1
+  pub hides : bus.hidden after.machine.bus ≡ bus.hidden before.machine.bus
+  pub keeps : unit.codes after.machine.unit ≡ unit.codes before.machine.unit
+
+-- a list of calls: all answers, and the terminal at the end
+abbrev pub performed_of : {B U : Type 0} → bus_of.Ghosts B → unit_of.Ghosts U → code.Terminal B U → List code_call.Call → List Answer × Terminal
+performed_of bus unit t calls = performed (service_of unit t) (map call_of calls) (terminal_of bus unit t)
 
 -- a terminal is made in the state after a load, with 1 pair and no program
 abbrev pub made : Cells → Contents → Terminal

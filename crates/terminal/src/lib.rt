@@ -3,18 +3,17 @@
 
 ghost use Rattle.std.specs.Prelude.{◌≡◌, map, is_ok, IfOk, if◌then◌else◌};
 ghost use Rattle.std.specs.Vec as vectors;
-ghost use Rattle.cpu.specs.Instructions.{served};
-ghost use Rattle.terminal.specs.Calls.{performed, load, start, raise, run, put, opening, entry, close, cell, register, status};
+ghost use Rattle.terminal.specs.Calls.{load, start, raise, run, put, opening, entry, close, cell, register, status};
+ghost use Rattle.terminal.specs.Numbers.{numbered};
+ghost use Rattle.terminal.specs.Terminals.{shown};
 ghost use Rattle.terminal.specs.Theorems.{Noninterference, Transparency};
-ghost use Rattle.terminal.specs.Responses.{Responds, made, terminal_of, done_of, byte_of, opened_of, closed_of, ran_of, stands_of, answer_of, call_of};
+ghost use Rattle.terminal.specs.Responses.{Responds, made, terminal_of, service_of, performed_of, done_of, byte_of, opened_of, closed_of, ran_of, stands_of, answer_of, call_of};
 
 pub mod calls;
-mod cells;
 pub mod interval;
 
 use buses::bus::Bus;
 use calls::{Answer, Call, Refusal, Standing, Unclosed, Unmade};
-use cells::{check, enter, lift, shown};
 use cpu::machine::{Machine, Run};
 use cpu::state::{Core, Mode};
 use interval::{Interval, Seal};
@@ -22,6 +21,17 @@ use marks::Marked;
 use std::alloc::{AllocError, Global};
 use units::unit::Unit;
 
+// A byte that may be shown.
+fn shown(value: Marked) -> Result<u8, Refusal>
+    ensures { numbered result ≡ shown value }
+{
+    if value.mark.is_held() {
+        return Err(Refusal::HeldByte);
+    }
+    Ok(value.byte)
+}
+
+// What it contains is told by terminal_of: an impl Model could not, since the cells of a bus are a function, which has no code.
 #[derive(Drop)]
 pub struct Terminal<B, U> {
     machine: Machine<B, U>,
@@ -30,7 +40,7 @@ pub struct Terminal<B, U> {
 impl<B: Bus, U: Unit> Terminal<B, U> {
     // A terminal with 1 saved pair and no program.
     pub fn new(heap: Global, bus: B, unit: U) -> Terminal<B, U>
-        ensures made { terminal_of B.Bus.cells U.Unit.contents result ≡ made (B.Bus.cells bus) (U.Unit.contents unit) }
+        ensures made { terminal_of B.Bus U.Unit result ≡ made (B.Bus.cells bus) (U.Unit.contents unit) }
         ensures bus { result.machine.bus ≡ bus }
         ensures unit { result.machine.unit ≡ unit }
     {
@@ -46,7 +56,7 @@ impl<B: Bus, U: Unit> Terminal<B, U> {
 
     // Replaces program and pairs, and begins anew; bus and unit stay.
     pub fn load(&mut self, pairs: u8, program: Vec<u8>) -> Result<(), Refusal>
-        ensures { Responds B.Bus.cells B.Bus.hidden U.Unit.contents U.Unit.codes U.Unit.operates self.old self.new (load pairs program.items) (done_of result) }
+        ensures { Responds B.Bus U.Unit self.old self.new (load pairs program.items) (done_of result) }
     {
         if program.len() < 1 || program.len() > 4096 {
             return Err(Refusal::ProgramLength);
@@ -61,7 +71,7 @@ impl<B: Bus, U: Unit> Terminal<B, U> {
 
     // Goes from byte 0, in no handler.
     pub fn start(&mut self) -> Result<(), Refusal>
-        ensures { Responds B.Bus.cells B.Bus.hidden U.Unit.contents U.Unit.codes U.Unit.operates self.old self.new start (done_of result) }
+        ensures { Responds B.Bus U.Unit self.old self.new start (done_of result) }
     {
         if self.machine.program.len() == 0 {
             return Err(Refusal::NoProgram);
@@ -74,7 +84,7 @@ impl<B: Bus, U: Unit> Terminal<B, U> {
 
     // Latches an interrupt line.
     pub fn raise(&mut self, line: u8) -> Result<(), Refusal>
-        ensures { Responds B.Bus.cells B.Bus.hidden U.Unit.contents U.Unit.codes U.Unit.operates self.old self.new (raise line) (done_of result) }
+        ensures { Responds B.Bus U.Unit self.old self.new (raise line) (done_of result) }
     {
         if line > 15 {
             return Err(Refusal::LineRange);
@@ -85,7 +95,7 @@ impl<B: Bus, U: Unit> Terminal<B, U> {
 
     // Makes steps until one ends the run or the budget is spent.
     pub fn run(&mut self, budget: u32) -> Result<Run, Refusal>
-        ensures { Responds B.Bus.cells B.Bus.hidden U.Unit.contents U.Unit.codes U.Unit.operates self.old self.new (run budget) (ran_of result) }
+        ensures { Responds B.Bus U.Unit self.old self.new (run budget) (ran_of result) }
     {
         if budget < 1 || budget > 1000000 {
             return Err(Refusal::BudgetRange);
@@ -98,28 +108,29 @@ impl<B: Bus, U: Unit> Terminal<B, U> {
 
     // Puts an unheld byte into a cell.
     pub fn put(&mut self, address: u16, byte: u8) -> Result<(), Refusal>
-        ensures { Responds B.Bus.cells B.Bus.hidden U.Unit.contents U.Unit.codes U.Unit.operates self.old self.new (put address byte) (done_of result) }
+        ensures { Responds B.Bus U.Unit self.old self.new (put address byte) (done_of result) }
     {
-        match self.machine.bus.write(address, Marked::unheld(byte)) {
-            Ok(()) => Ok(()),
-            Err(_) => Err(Refusal::AbsentCell),
-        }
+        self.machine
+            .bus
+            .write(address, Marked::unheld(byte))
+            .map_err(|_| Refusal::AbsentCell)
     }
 
     // Opens an interval over plain cells.
     pub fn open(&self, seal: Seal, first: u16, count: u16) -> Result<Interval, Refusal>
-        ensures { Responds B.Bus.cells B.Bus.hidden U.Unit.contents U.Unit.codes U.Unit.operates self.now self.now (opening seal first count) (opened_of result) }
+        ensures { Responds B.Bus U.Unit self.now self.now (opening seal first count) (opened_of result) }
     {
         if count < 1 || count > 256 || first as u32 + count as u32 > 65536 {
             return Err(Refusal::IntervalRange);
         }
-        check(&self.machine.bus, first, count)?;
-        Ok(Interval { seal, first, count })
+        let interval = Interval { seal, first, count };
+        interval.check(&self.machine.bus)?;
+        Ok(interval)
     }
 
     // Puts a byte into a cell of an interval, held if the interval is sealed.
     pub fn entry(&mut self, interval: &Interval, offset: u16, byte: u8) -> Result<(), Refusal>
-        ensures { Responds B.Bus.cells B.Bus.hidden U.Unit.contents U.Unit.codes U.Unit.operates self.old self.new (entry interval.now offset byte) (done_of result) }
+        ensures { Responds B.Bus U.Unit self.old self.new (entry interval.now offset byte) (done_of result) }
     {
         if offset >= interval.count {
             return Err(Refusal::OffsetRange);
@@ -128,22 +139,17 @@ impl<B: Bus, U: Unit> Terminal<B, U> {
             byte,
             mark: interval.seal.into(),
         };
-        enter(
-            &mut self.machine.bus,
-            interval.first,
-            interval.count,
-            offset,
-            value,
-        )
+        interval.enter(&mut self.machine.bus, offset, value)
     }
 
     // Lifts all cells of an interval and uses it up; a refusal hands it back.
     pub fn close(&mut self, interval: Interval) -> Result<(), Unclosed>
-        ensures { Responds B.Bus.cells B.Bus.hidden U.Unit.contents U.Unit.codes U.Unit.operates self.old self.new (close interval) (closed_of result) }
+        ensures { Responds B.Bus U.Unit self.old self.new (close interval) (closed_of result) }
     {
-        match check(&self.machine.bus, interval.first, interval.count) {
+        // No map_err: its closure would take the interval, which is still to be lifted.
+        match interval.check(&self.machine.bus) {
             Ok(()) => {
-                lift(&mut self.machine.bus, interval.first, interval.count);
+                interval.lift(&mut self.machine.bus);
                 Ok(())
             }
             Err(refusal) => Err(Unclosed { refusal, interval }),
@@ -152,17 +158,19 @@ impl<B: Bus, U: Unit> Terminal<B, U> {
 
     // The byte of a cell, if it is not held.
     pub fn cell(&self, address: u16) -> Result<u8, Refusal>
-        ensures { Responds B.Bus.cells B.Bus.hidden U.Unit.contents U.Unit.codes U.Unit.operates self.now self.now (cell address) (byte_of result) }
+        ensures { Responds B.Bus U.Unit self.now self.now (cell address) (byte_of result) }
     {
-        match self.machine.bus.read(address) {
-            Ok(value) => shown(value),
-            Err(_) => Err(Refusal::AbsentCell),
-        }
+        let value = self
+            .machine
+            .bus
+            .read(address)
+            .map_err(|_| Refusal::AbsentCell)?;
+        shown(value)
     }
 
     // The byte of a register, if it is not held; 16 is the status register.
     pub fn register(&self, number: u8) -> Result<u8, Refusal>
-        ensures { Responds B.Bus.cells B.Bus.hidden U.Unit.contents U.Unit.codes U.Unit.operates self.now self.now (register number) (byte_of result) }
+        ensures { Responds B.Bus U.Unit self.now self.now (register number) (byte_of result) }
     {
         match number {
             0..=15 => shown(self.machine.core.register(number)),
@@ -173,7 +181,7 @@ impl<B: Bus, U: Unit> Terminal<B, U> {
 
     // Where the terminal stands.
     pub fn status(&self) -> Standing
-        ensures { Responds B.Bus.cells B.Bus.hidden U.Unit.contents U.Unit.codes U.Unit.operates self.now self.now status (stands_of result) }
+        ensures { Responds B.Bus U.Unit self.now self.now status (stands_of result) }
     {
         let core = &self.machine.core;
         Standing {
@@ -188,7 +196,7 @@ impl<B: Bus, U: Unit> Terminal<B, U> {
 
     // Makes a call of a list.
     fn respond(&mut self, call: Call<'_>) -> Result<Answer, Unmade>
-        ensures { Responds B.Bus.cells B.Bus.hidden U.Unit.contents U.Unit.codes U.Unit.operates self.old self.new (call_of call.entry) (answer_of result) }
+        ensures { Responds B.Bus U.Unit self.old self.new (call_of call.entry) (answer_of result) }
     {
         match call {
             Call::Load(pairs, program) => self.load(pairs, program)?,
@@ -214,12 +222,12 @@ impl<B: Bus, U: Unit> Terminal<B, U> {
         heap: Global,
         calls: Vec<Call<'_>>,
     ) -> Result<Vec<Result<Answer, Unmade>>, AllocError>
-        ensures answers { IfOk result (λ v. map answer_of v.items ≡ (performed (served U.Unit.operates (U.Unit.codes self.old.machine.unit)) (map call_of calls.entry.items) (terminal_of B.Bus.cells U.Unit.contents self.old)).0) }
-        ensures leaves { terminal_of B.Bus.cells U.Unit.contents self.new ≡ (if is_ok result then (performed (served U.Unit.operates (U.Unit.codes self.old.machine.unit)) (map call_of calls.entry.items) (terminal_of B.Bus.cells U.Unit.contents self.old)).1 else terminal_of B.Bus.cells U.Unit.contents self.old) }
+        ensures answers { IfOk result (λ v. map answer_of v.items ≡ (performed_of B.Bus U.Unit self.old calls.entry.items).0) }
+        ensures leaves { terminal_of B.Bus U.Unit self.new ≡ (if is_ok result then (performed_of B.Bus U.Unit self.old calls.entry.items).1 else terminal_of B.Bus U.Unit self.old) }
         ensures hides { B.Bus.hidden self.new.machine.bus ≡ B.Bus.hidden self.old.machine.bus }
         ensures keeps { U.Unit.codes self.new.machine.unit ≡ U.Unit.codes self.old.machine.unit }
-        ensures noninterference { Noninterference (served U.Unit.operates (U.Unit.codes self.old.machine.unit)) }
-        ensures transparency { Transparency (served U.Unit.operates (U.Unit.codes self.old.machine.unit)) }
+        ensures noninterference { Noninterference (service_of U.Unit self.old) }
+        ensures transparency { Transparency (service_of U.Unit self.old) }
     {
         let mut answers = Vec::with_capacity(heap, calls.len())?;
         for call in calls {

@@ -27,7 +27,7 @@ returns-in_err-answers g c =
 
 pub loop-call-init : goal.loop-call-init
 loop-call-init g c =
-    let all = performed (served g.U.Unit.operates (g.U.Unit.codes c.args.self.now.machine.unit)) (map call_of c.into_iter-call-iterator.result.rest.items) (terminal_of g.B.Bus.cells g.U.Unit.contents c.args.self.now) in
+    let all = performed (served g.U.Unit.operates (g.U.Unit.codes c.args.self.now.machine.unit)) (map call_of c.into_iter-call-iterator.result.rest.items) (terminal_of g.B.Bus g.U.Unit c.args.self.now) in
     let new = c.in_ok-answers.ensures in
     let many = ap length c.into_iter-call-iterator.ensures.into_iter_gives.0 in
     (tt, tt, ap (λ (xs : List (Result Answer Unmade)). after (map answer_of xs) all) new.items, refl, refl, omega (arith, new.len, new.capacity, many, c.args.calls.ok.0, c.len.ensures))
@@ -37,7 +37,7 @@ push_reserved-requires g c = omega (arith, c.loop-call.invariant.5, ap length c.
 
 pub loop-call-preserved : goal.loop-call-preserved
 loop-call-preserved g c =
-    let terminal = terminal_of g.B.Bus.cells g.U.Unit.contents in
+    let terminal = terminal_of g.B.Bus g.U.Unit in
     let codes = g.U.Unit.codes c.args.self.now.machine.unit in
     let unit = served g.U.Unit.operates codes in
     let given = map answer_of (vec_items c.loop-call.answers) in
@@ -59,7 +59,7 @@ loop-call-preserved g c =
 
 pub returns : goal.returns
 returns g c =
-    let terminal = terminal_of g.B.Bus.cells g.U.Unit.contents in
+    let terminal = terminal_of g.B.Bus g.U.Unit in
     let codes = g.U.Unit.codes c.args.self.now.machine.unit in
     let unit = served g.U.Unit.operates codes in
     let given = map answer_of (vec_items c.loop-call.answers) in

@@ -9,7 +9,7 @@ use Rattle.terminal.proofs.Terminal.perform.Given as goal
 abbrev pub invariant-loop-call : goal.invariant-loop-call
 invariant-loop-call g l =
     let unit = served g.U.Unit.operates (g.U.Unit.codes l.initial.self.machine.unit) in
-    let terminal = terminal_of g.B.Bus.cells g.U.Unit.contents in
+    let terminal = terminal_of g.B.Bus g.U.Unit in
     (goal.iterator-loop-call g).can_next l.call-iterator
     × (goal.iterator-loop-call g).is_finite l.call-iterator
     × (after (map answer_of (vec_items l.answers)) (performed unit (map call_of l.call-iterator.rest.items) (terminal l.self)) ≡ performed unit (map call_of l.initial.call-iterator.rest.items) (terminal l.initial.self))
