@@ -58,10 +58,10 @@ impl<B: Bus, U: Unit> Terminal<B, U> {
     pub fn load(&mut self, pairs: u8, program: Vec<u8>) -> Result<(), Refusal>
         ensures { Responds B.Bus U.Unit self.old self.new (load pairs program.items) (done_of result) }
     {
-        if program.len() < 1 || program.len() > 4096 {
+        if !(1..=4096).contains(&program.len()) {
             return Err(Refusal::ProgramLength);
         }
-        if pairs < 1 || pairs > 8 {
+        if !(1..=8).contains(&pairs) {
             return Err(Refusal::PairsRange);
         }
         self.machine.core = Core::new(pairs);
@@ -73,7 +73,7 @@ impl<B: Bus, U: Unit> Terminal<B, U> {
     pub fn start(&mut self) -> Result<(), Refusal>
         ensures { Responds B.Bus U.Unit self.old self.new start (done_of result) }
     {
-        if self.machine.program.len() == 0 {
+        if self.machine.program.is_empty() {
             return Err(Refusal::NoProgram);
         }
         self.machine.core.pc = 0;
@@ -97,7 +97,7 @@ impl<B: Bus, U: Unit> Terminal<B, U> {
     pub fn run(&mut self, budget: u32) -> Result<Run, Refusal>
         ensures { Responds B.Bus U.Unit self.old self.new (run budget) (ran_of result) }
     {
-        if budget < 1 || budget > 1000000 {
+        if !(1..=1_000_000).contains(&budget) {
             return Err(Refusal::BudgetRange);
         }
         match self.machine.core.mode {
@@ -120,7 +120,7 @@ impl<B: Bus, U: Unit> Terminal<B, U> {
     pub fn open(&self, seal: Seal, first: u16, count: u16) -> Result<Interval, Refusal>
         ensures { Responds B.Bus U.Unit self.now self.now (opening seal first count) (opened_of result) }
     {
-        if count < 1 || count > 256 || first as u32 + count as u32 > 65536 {
+        if !(1..=256).contains(&count) || first as u32 + count as u32 > 65536 {
             return Err(Refusal::IntervalRange);
         }
         let interval = Interval { seal, first, count };
@@ -160,12 +160,11 @@ impl<B: Bus, U: Unit> Terminal<B, U> {
     pub fn cell(&self, address: u16) -> Result<u8, Refusal>
         ensures { Responds B.Bus U.Unit self.now self.now (cell address) (byte_of result) }
     {
-        let value = self
-            .machine
+        self.machine
             .bus
             .read(address)
-            .map_err(|_| Refusal::AbsentCell)?;
-        shown(value)
+            .map_err(|_| Refusal::AbsentCell)
+            .and_then(shown)
     }
 
     // The byte of a register, if it is not held; 16 is the status register.
