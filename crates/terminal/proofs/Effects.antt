@@ -27,7 +27,8 @@ use Rattle.cpu.specs.State.{State, register, with_register, with_registers, with
 use Rattle.cpu.specs.Steps.{Effect, over, leaves, on_core, or_core, or_both, effect}
 use Rattle.terminal.specs.Relations.{StatusBy, CoreBy, CellBy, CellsBy, StateBy}
 use Rattle.terminal.proofs.Cores.{registers_by, status_by, pc_by, sp_by, enabled_by, vectors_by, latched_by, mode_by, handling_by, pairs_by, register_by, put_by}
-use Rattle.terminal.proofs.Follow.{Through, Same, Follows, then_follows, apart, steered_by}
+use Rattle.terminal.proofs.Follow.{Through, Same, same_cases, Follows, then_follows, apart, steered_by}
+use Rattle.terminal.proofs.OneKind.{one_kind}
 
 -- a unit whose answers are in relation where its uses are
 abbrev pub Serves : Rel Marked → Service → Type 0
@@ -57,15 +58,7 @@ module _ {R : Rel Marked} {E : Type 0} (thr : Through R E) where
   -- cells
 
   read_cell_lem : (l : Layer) (x y : Cell) → CellBy R x y → Follows R E (from l (read_cell x)) (from l (read_cell y))
-  read_cell_lem l absent absent r = inl refl
-  read_cell_lem l absent (plain y) r = absurd r
-  read_cell_lem l absent (board y) r = absurd r
-  read_cell_lem l (plain x) absent r = absurd r
-  read_cell_lem l (plain x) (plain y) r = inl r
-  read_cell_lem l (plain x) (board y) r = absurd r
-  read_cell_lem l (board x) absent r = absurd r
-  read_cell_lem l (board x) (plain y) r = absurd r
-  read_cell_lem l (board x) (board y) r = inl (subst (λ (n : ℕ). R (unheld x) (unheld n)) r (thr.constant x))
+  read_cell_lem l = one_kind R (λ x y. Follows R E (from l (read_cell x)) (from l (read_cell y))) (inl refl) (λ m n r. inl r) (λ b. inl (thr.constant b))
 
   show_cell : (a : ℕ) (m n : Marked) → R m n → Follows (CellBy R) E (from (of_bus a) (bus.shown m m.mark)) (from (of_bus a) (bus.shown n n.mark))
   show_cell a m n r = go m.mark n.mark refl refl where
@@ -76,15 +69,7 @@ module _ {R : Rel Marked} {E : Type 0} (thr : Through R E) where
     go Unheld Unheld ep eq = inl (thr.shown m n r (ap held ep)).1
 
   write_cell_lem : (a : ℕ) (x y : Cell) (m n : Marked) → CellBy R x y → R m n → Follows (CellBy R) E (from (of_bus a) (write_cell x m)) (from (of_bus a) (write_cell y n))
-  write_cell_lem a absent absent m n r q = inl refl
-  write_cell_lem a absent (plain y) m n r q = absurd r
-  write_cell_lem a absent (board y) m n r q = absurd r
-  write_cell_lem a (plain x) absent m n r q = absurd r
-  write_cell_lem a (plain x) (plain y) m n r q = inl q
-  write_cell_lem a (plain x) (board y) m n r q = absurd r
-  write_cell_lem a (board x) absent m n r q = absurd r
-  write_cell_lem a (board x) (plain y) m n r q = absurd r
-  write_cell_lem a (board x) (board y) m n r q = show_cell a m n q
+  write_cell_lem a x y m n r q = one_kind R (λ x y. Follows (CellBy R) E (from (of_bus a) (write_cell x m)) (from (of_bus a) (write_cell y n))) (inl refl) (λ _ _ _. inl q) (λ _. show_cell a m n q) x y r
 
   pub put_cell : (xs ys : Cells) → CellsBy R xs ys → (a : ℕ) (c d : Cell) → CellBy R c d → CellsBy R (put_at xs a c) (put_at ys a d)
   put_cell xs ys h a c d r k = go (eqb k a) where
@@ -305,10 +290,10 @@ module _ {R : Rel Marked} {E : Type 0} (thr : Through R E) where
         end x p = Ok (record { state = record { core = replied x.core dst p.0; cells = x.cells; contents = p.1 }; wait = p.0.wait; said = None })
 
         go : (o p : Result (Reply × Contents) ℕ) → Same (OutcomeBy R) o p → Follows (EffectBy R) E (and_then (from (of_unit code) o) (end s)) (and_then (from (of_unit code) p) (end t))
-        go (Ok x) (Ok y) r = inl (record { state = record { core = replied_by dst x.0 y.0 r.0.0 r.0.2; cells = h.cells; contents = r.1 }; wait = r.0.1; said = refl })
-        go (Ok x) (Err n) r = absurd r
-        go (Err m) (Ok y) r = absurd r
-        go (Err m) (Err n) r = inl (ap (λ (k : ℕ). stop k (of_unit code)) r)
+        go =
+            same_cases (OutcomeBy R) (λ o p. Follows (EffectBy R) E (and_then (from (of_unit code) o) (end s)) (and_then (from (of_unit code) p) (end t)))
+            (λ x y r. inl (record { state = record { core = replied_by dst x.0 y.0 r.0.0 r.0.2; cells = h.cells; contents = r.1 }; wait = r.0.1; said = refl }))
+            (λ n. inl refl)
 
       pub effect_by : (x : Instruction) → Follows (EffectBy R) E (effect unit x s) (effect unit x t)
       effect_by (i.Mvs top) = core_by _ _ (sp_by s.core t.core h.core _ _ refl)

@@ -1,5 +1,6 @@
 -- One relation serves both theorems: what the first machine does, the second follows, unless the first stops over a held byte. Assumes nothing.
-use Rattle.std.proofs.Common.{◌≡◌, ℕ, Bool, true, false, cond, ◌⊎◌, List, [], ◌∷◌, Some, None, Ok, Err, Option, Result, sym, refl, ap, ◌∙◌, subst, inl, inr, ⊎_elim, arith}
+use Rattle.std.proofs.Common.{◌≡◌, ℕ, Bool, true, false, cond, ◌⊎◌, List, [], ◌∷◌, Some, None, Ok, Err, Option, Result, sym, refl, ap, ◌∙◌, subst, inl, inr, ⊎_elim}
+use Rattle.std.proofs.lemmas.Bool.{true≢false}
 use Rattle.marks.specs.declared.Marked.{Marked}
 use Rattle.marks.specs.Marks.{held, unheld}
 use Rattle.marks.specs.Relations.{Rel, Alike, SameByte, Clear, Bare, Pointwise, All}
@@ -25,6 +26,13 @@ Same Q (Ok a) (Err g) = ⊥
 Same Q (Err f) (Ok b) = ⊥
 Same Q (Err f) (Err g) = f ≡ g
 
+-- what holds of equal refusals and of values in relation holds of one outcome and the other
+pub same_cases : {A X : Type 0} (Q : Rel A) (P : Rel (Result A X)) → ((a b : A) → Q a b → P (Ok a) (Ok b)) → ((f : X) → P (Err f) (Err f)) → (o p : Result A X) → Same Q o p → P o p
+same_cases Q P k e (Ok a) (Ok b) q = k a b q
+same_cases Q P k e (Ok a) (Err g) q = absurd q
+same_cases Q P k e (Err f) (Ok b) q = absurd q
+same_cases Q P k e (Err f) (Err g) q = subst (λ (x : _). P (Err f) (Err x)) q (e f)
+
 abbrev pub Excused : {A : Type 0} → Result A Stop → Type 0
 Excused (Ok a) = ⊥
 Excused (Err f) = held_stop f ≡ true
@@ -42,7 +50,7 @@ then_follows Q P (Ok a) p f g (inr x) k = absurd x.0
 then_follows Q P (Err e) p f g (inr x) k = inr x
 
 pub apart : {A : Type 0} → true ≡ false → A
-apart e = absurd (let z : ◌≡◌ {A = ℕ} 0 1 = cc in omega arith)
+apart e = absurd (true≢false e)
 
 module _ {R : Rel Marked} {E : Type 0} (thr : Through R E) where
   -- a test on a mark, and what is done where it is not held

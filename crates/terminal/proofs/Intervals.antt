@@ -1,5 +1,6 @@
 -- An interval whose cells were checked has plain cells only. Assumes nothing.
-use Rattle.std.proofs.Common.{◌≡◌, ℕ, zero, suc, ◌+◌, ◌-◌, ◌%◌, ◌<◌, ◌∷◌, get_or, is_ok, Ok, Err, Result, refl, ap, ◌∙◌, arith}
+use Rattle.std.proofs.Common.{◌≡◌, ℕ, zero, suc, ◌+◌, ◌-◌, ◌%◌, ◌<◌, ◌∷◌, get_or, is_ok, Ok, Err, Result, sym, refl, ap, ◌∙◌, arith}
+use Rattle.std.proofs.lemmas.Bool.{true≢false}
 use Rattle.marks.specs.declared.Marked.{Marked}
 use Rattle.buses.specs.Cells.{Cell, Cells, absent, plain, board, write_cell, put_at, settled}
 use Rattle.buses.specs.Cells as bus
@@ -10,14 +11,18 @@ use Rattle.terminal.specs.declared.calls.Refusal.{Refusal}
 use Rattle.terminal.specs.Numbers.{numbered}
 use Rattle.terminal.specs.Terminals.{addresses, and_then, cells_entered, cells_written, checked, is_plain, left, told}
 
+-- what is refused does not pass
+pub not_both : {A B : Type 0} {n : ℕ} {x : A} → ◌≡◌ {A = Result A ℕ} (Err n) (Ok x) → B
+not_both e = absurd (true≢false (ap is_ok (sym e)))
+
 -- an answer with two parts has both
 pub first_ok : {A : Type 0} (r : Result (Unit {0}) ℕ) (s : Result A ℕ) (x : A) → and_then r (λ _. s) ≡ Ok x → r ≡ Ok tt
 first_ok (Ok u) s x e = refl
-first_ok (Err n) s x e = absurd (let z : ◌≡◌ {A = ℕ} 0 1 = cc in omega arith)
+first_ok (Err n) s x e = not_both e
 
 pub second_ok : {A : Type 0} (r : Result (Unit {0}) ℕ) (s : Result A ℕ) (x : A) → and_then r (λ _. s) ≡ Ok x → s ≡ Ok x
 second_ok (Ok u) s x e = e
-second_ok (Err n) s x e = absurd (let z : ◌≡◌ {A = ℕ} 0 1 = cc in omega arith)
+second_ok (Err n) s x e = not_both e
 
 -- from an offset on: the cell there, and then the rest
 pub from_offset : (first count k : ℕ) → k < count → addresses ((first + k) % 65536) (count - k) ≡ ((first + k) % 65536 ∷ addresses ((first + (k + 1)) % 65536) (count - (k + 1)))
@@ -41,15 +46,15 @@ checked_plain cells first (suc count) (suc offset) d o e = checked_plain cells (
 
 -- a plain cell takes every byte
 pub plain_takes : (c : Cell) (m : Marked) → is_plain c ≡ Ok tt → bus.told (write_cell c m) ≡ Ok tt
-plain_takes absent m e = absurd (let z : ◌≡◌ {A = ℕ} 0 1 = cc in omega arith)
+plain_takes absent m e = not_both e
 plain_takes (plain old) m e = refl
-plain_takes (board b) m e = absurd (let z : ◌≡◌ {A = ℕ} 0 1 = cc in omega arith)
+plain_takes (board b) m e = not_both e
 
 -- a call that is refused where the bus refuses passes where the bus does
 pub passes : (r : Result (Unit {0}) bus_refusal.Refusal) (s : Result (Unit {0}) Refusal) → bus_numbers.numbered r ≡ Ok tt → is_ok s ≡ is_ok r → numbered s ≡ Ok tt
 passes (Ok u) (Ok v) e same = refl
-passes (Ok u) (Err m) e same = absurd (let z : ◌≡◌ {A = ℕ} 0 1 = cc in omega arith)
-passes (Err n) s e same = absurd (let z : ◌≡◌ {A = ℕ} 0 1 = cc in omega arith)
+passes (Ok u) (Err m) e same = absurd (true≢false (sym same))
+passes (Err n) s e same = not_both e
 
 -- what an entry into checked cells does is what the bus does
 pub entered_is : (cells : Cells) (first count offset : ℕ) (m : Marked) → first < 65536 → offset < count → checked cells (addresses first count) ≡ Ok tt → cells_entered cells first count offset m ≡ cells_written cells ((first + offset) % 65536) m

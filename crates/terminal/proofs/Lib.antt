@@ -2,6 +2,7 @@ mod Cores
 mod Effects
 mod Follow
 mod Intervals
+mod OneKind
 mod Responding
 mod Runs
 mod Theorems

@@ -1,7 +1,7 @@
 -- Terminals in relation answer each call alike, unless the first is refused or stopped over a held byte. Assumes nothing.
-use Rattle.std.proofs.Common.{◌≡◌, ℕ, ◌+◌, ◌*◌, ◌%◌, ◌^◌, ◌<◌, Bool, true, false, cond, not, ◌||◌, T, eqb, ltb, leb, ◌⊎◌, List, [], ◌∷◌, length, get_or, Ok, Err, Result, sym, refl, ap, ◌∙◌, subst, inl, inr, ⊎_elim, arith, eqb→eq}
+use Rattle.std.proofs.Common.{◌≡◌, ℕ, ◌+◌, ◌*◌, ◌%◌, ◌^◌, ◌<◌, Bool, true, false, cond, not, ◌||◌, eqb, ltb, leb, ◌⊎◌, List, [], ◌∷◌, length, get_or, Ok, Err, Result, sym, refl, ap, ◌∙◌, subst, inl, inr, ⊎_elim}
 use lib.Bits.{bit_or}
-use lib.Dec.{nleb→lt}
+use Rattle.std.proofs.lemmas.Bool.{eqb-true, leb-false}
 use Rattle.marks.specs.declared.Marked.{Marked}
 use Rattle.marks.specs.Marks.{held, unheld}
 use Rattle.marks.specs.Relations.{Rel, All}
@@ -24,8 +24,9 @@ use Rattle.terminal.specs.Terminals.{Terminal, with_core, with_cells, unless, an
 use Rattle.terminal.specs.Theorems.{byte_in, over_held}
 use Rattle.terminal.proofs.Cores.{cleared_by, pc_by, mode_by, handling_by, latched_by, register_by}
 use Rattle.terminal.proofs.Effects.{Serves, binary, put_cell}
-use Rattle.terminal.proofs.Follow.{Through, Same, apart}
-use Rattle.terminal.proofs.Intervals.{checked_plain}
+use Rattle.terminal.proofs.Follow.{Through, Same, same_cases, apart}
+use Rattle.terminal.proofs.Intervals.{checked_plain, not_both}
+use Rattle.terminal.proofs.OneKind.{one_kind}
 use Rattle.terminal.proofs.Runs.{RunFollows, run_by}
 
 -- answers that hand out no interval
@@ -42,19 +43,11 @@ is_plain_answer (unclosed n i) = false
 abbrev pub RespondBy : Rel Marked → Type 0 → Rel Answer → Rel (Answer × Terminal)
 RespondBy R E V p q = (V p.0 q.0 × TerminalBy R p.1 q.1) ⊎ ((over_held p.0 ≡ true) × E)
 
--- an offset that is not past the count is below it
-below : (count offset : ℕ) → leb count offset ≡ false → offset < count
-below count offset e = nleb→lt count offset (subst (λ (b : Bool). T (not b)) (sym e) tt)
-
-pub true_is : (b : Bool) → b ≡ true → T b
-true_is true e = tt
-true_is false e = apart (sym e)
-
 -- lifting a cell leaves every byte
 lift_bytes : (xs : Cells) (a k : ℕ) → byte_in (settled xs a (lift_cell (xs a)) k) ≡ byte_in (xs k)
 lift_bytes xs a k = go (xs a) refl where
   at : (b : Bool) → eqb k a ≡ b → (c d : Cell) → xs a ≡ c → byte_in c ≡ byte_in d → byte_in (cond b d (xs k)) ≡ byte_in (xs k)
-  at true e c d f g = sym g ∙ ap byte_in (sym f) ∙ ap (λ (n : ℕ). byte_in (xs n)) (sym (eqb→eq k a (true_is (eqb k a) e)))
+  at true e c d f g = sym g ∙ ap byte_in (sym f) ∙ ap (λ (n : ℕ). byte_in (xs n)) (sym (eqb-true k a e))
   at false e c d f g = refl
 
   go : (c : Cell) → xs a ≡ c → byte_in (settled xs a (lift_cell c) k) ≡ byte_in (xs k)
@@ -64,15 +57,10 @@ lift_bytes xs a k = go (xs a) refl where
 
 module _ {R : Rel Marked} {E : Type 0} (thr : Through R E) where
   lift_cell_lem : (xs ys : Cells) → CellsBy R xs ys → (a : ℕ) → (x y : Cell) → CellBy R x y → byte_in x ≡ byte_in y → CellsBy R (settled xs a (lift_cell x)) (settled ys a (lift_cell y))
-  lift_cell_lem xs ys h a absent absent r e = h
-  lift_cell_lem xs ys h a absent (plain y) r e = absurd r
-  lift_cell_lem xs ys h a absent (board y) r e = absurd r
-  lift_cell_lem xs ys h a (plain x) absent r e = absurd r
-  lift_cell_lem xs ys h a (plain x) (plain y) r e = put_cell thr xs ys h a (plain (unheld x.byte)) (plain (unheld y.byte)) (subst (λ (n : ℕ). R (unheld x.byte) (unheld n)) e (thr.constant x.byte))
-  lift_cell_lem xs ys h a (plain x) (board y) r e = absurd r
-  lift_cell_lem xs ys h a (board x) absent r e = absurd r
-  lift_cell_lem xs ys h a (board x) (plain y) r e = absurd r
-  lift_cell_lem xs ys h a (board x) (board y) r e = put_cell thr xs ys h a (board x) (board y) r
+  lift_cell_lem xs ys h a =
+      one_kind R (λ x y. byte_in x ≡ byte_in y → CellsBy R (settled xs a (lift_cell x)) (settled ys a (lift_cell y))) (λ e. h)
+      (λ m n r e. put_cell thr xs ys h a (plain (unheld m.byte)) (plain (unheld n.byte)) (subst (λ (k : ℕ). R (unheld m.byte) (unheld k)) e (thr.constant m.byte)))
+      (λ b e. put_cell thr xs ys h a (board b) (board b) refl)
 
   still_equal : (xs ys : Cells) (a : ℕ) (places : List ℕ) → All (λ k. byte_in (xs k) ≡ byte_in (ys k)) places → All (λ k. byte_in (settled xs a (lift_cell (xs a)) k) ≡ byte_in (settled ys a (lift_cell (ys a)) k)) places
   still_equal xs ys a [] p = tt
@@ -93,11 +81,11 @@ module _ {R : Rel Marked} {E : Type 0} (thr : Through R E) (V : Rel Answer) (equ
     cells_by : (xs ys : Cells) → CellsBy R xs ys → TerminalBy R (with_cells s xs) (with_cells t ys)
     cells_by xs ys r = record { program = h.program; machine = record { core = h.machine.core; cells = r; contents = h.machine.contents } }
 
+    refusal : (n : ℕ) → RespondBy R E V (refused n, s) (refused n, t)
+    refusal n = inl (equal (refused n) (refused n) refl refl, h)
+
     changes_by : (o p : Result Terminal ℕ) → Same (TerminalBy R) o p → RespondBy R E V (changes s o) (changes t p)
-    changes_by (Ok u) (Ok v) r = inl (equal done done refl refl, r)
-    changes_by (Ok u) (Err n) r = absurd r
-    changes_by (Err m) (Ok v) r = absurd r
-    changes_by (Err m) (Err n) r = inl (equal (refused m) (refused n) refl (ap refused r), h)
+    changes_by = same_cases (TerminalBy R) (λ o p. RespondBy R E V (changes s o) (changes t p)) (λ u v r. inl (equal done done refl refl, r)) refusal
 
     -- load, start, raise
 
@@ -148,15 +136,7 @@ module _ {R : Rel Marked} {E : Type 0} (thr : Through R E) (V : Rel Answer) (equ
       go false false ea eb = inl (ap Ok (thr.shown x y r ea).1)
 
     cell_shown_lem : (x y : Cell) → CellBy R x y → (and_then (read_cell x) shown ≡ and_then (read_cell y) shown) ⊎ ((and_then (read_cell x) shown ≡ Err 22) × E)
-    cell_shown_lem absent absent r = inl refl
-    cell_shown_lem absent (plain y) r = absurd r
-    cell_shown_lem absent (board y) r = absurd r
-    cell_shown_lem (plain x) absent r = absurd r
-    cell_shown_lem (plain x) (plain y) r = shown_by x y r
-    cell_shown_lem (plain x) (board y) r = absurd r
-    cell_shown_lem (board x) absent r = absurd r
-    cell_shown_lem (board x) (plain y) r = absurd r
-    cell_shown_lem (board x) (board y) r = inl (ap Ok r)
+    cell_shown_lem = one_kind R (λ x y. (and_then (read_cell x) shown ≡ and_then (read_cell y) shown) ⊎ ((and_then (read_cell x) shown ≡ Err 22) × E)) (inl refl) (λ m n r. shown_by m n r) (λ _. inl refl)
 
     pub cell_by : (a : ℕ) → RespondBy R E V (tells s (does.cell_shown a s)) (tells t (does.cell_shown a t))
     cell_by a = tells_by (does.cell_shown a s) (does.cell_shown a t) (cell_shown_lem (s.machine.cells a) (t.machine.cells a) (cs a))
@@ -185,11 +165,10 @@ module _ {R : Rel Marked} {E : Type 0} (thr : Through R E) (V : Rel Answer) (equ
     -- run
 
     runs_by : (o p : Result Ran ℕ) → Same (RunFollows R E) o p → RespondBy R E V (calls.runs s o) (calls.runs t p)
-    runs_by (Ok x) (Ok y) (inl r) = inl (equal _ _ refl (λ i. ran (r.steps i) (r.cycles i) (r.ending i)), record { program = h.program; machine = r.state })
-    runs_by (Ok x) (Ok y) (inr r) = inr r
-    runs_by (Ok x) (Err n) r = absurd r
-    runs_by (Err m) (Ok y) r = absurd r
-    runs_by (Err m) (Err n) r = inl (equal (refused m) (refused n) refl (ap refused r), h)
+    runs_by = same_cases (RunFollows R E) (λ o p. RespondBy R E V (calls.runs s o) (calls.runs t p)) both refusal where
+      both : (x y : Ran) → RunFollows R E x y → RespondBy R E V (calls.runs s (Ok x)) (calls.runs t (Ok y))
+      both x y (inl r) = inl (equal _ _ refl (λ i. ran (r.steps i) (r.cycles i) (r.ending i)), record { program = h.program; machine = r.state })
+      both x y (inr r) = inr r
 
     pub run_told : (unit : Service) → Serves R unit → (budget : ℕ) → RespondBy R E V (calls.runs s (does.ran unit budget s)) (calls.runs t (does.ran unit budget t))
     run_told unit serves budget =
@@ -202,39 +181,20 @@ module _ {R : Rel Marked} {E : Type 0} (thr : Through R E) (V : Rel Answer) (equ
     -- put
 
     written_by : (b : ℕ) (x y : Cell) → CellBy R x y → Same (CellBy R) (write_cell x (unheld b)) (write_cell y (unheld b))
-    written_by b absent absent r = refl
-    written_by b absent (plain y) r = absurd r
-    written_by b absent (board y) r = absurd r
-    written_by b (plain x) absent r = absurd r
-    written_by b (plain x) (plain y) r = thr.constant b
-    written_by b (plain x) (board y) r = absurd r
-    written_by b (board x) absent r = absurd r
-    written_by b (board x) (plain y) r = absurd r
-    written_by b (board x) (board y) r = refl
+    written_by b = one_kind R (λ x y. Same (CellBy R) (write_cell x (unheld b)) (write_cell y (unheld b))) refl (λ _ _ _. thr.constant b) (λ _. refl)
+
+    put_cells : (a : ℕ) (o p : Result Cell ℕ) → Same (CellBy R) o p → Same (TerminalBy R) (and_then (and_then o (λ c. Ok (put_at s.machine.cells a c))) (λ xs. Ok (with_cells s xs))) (and_then (and_then p (λ c. Ok (put_at t.machine.cells a c))) (λ ys. Ok (with_cells t ys)))
+    put_cells a =
+        same_cases (CellBy R) (λ o p. Same (TerminalBy R) (and_then (and_then o (λ c. Ok (put_at s.machine.cells a c))) (λ xs. Ok (with_cells s xs))) (and_then (and_then p (λ c. Ok (put_at t.machine.cells a c))) (λ ys. Ok (with_cells t ys))))
+        (λ c d r. cells_by _ _ (put_cell thr s.machine.cells t.machine.cells cs a c d r)) (λ _. refl)
 
     pub put_by : (a b : ℕ) → RespondBy R E V (changes s (does.written a b s)) (changes t (does.written a b t))
-    put_by a b = changes_by (does.written a b s) (does.written a b t) (go (write_cell (s.machine.cells a) (unheld b)) (write_cell (t.machine.cells a) (unheld b)) (written_by b (s.machine.cells a) (t.machine.cells a) (cs a))) where
-      end : Terminal → Cells → Result Terminal ℕ
-      end x xs = Ok (with_cells x xs)
-
-      go : (o p : Result Cell ℕ) → Same (CellBy R) o p → Same (TerminalBy R) (and_then (and_then o (λ c. Ok (put_at s.machine.cells a c))) (end s)) (and_then (and_then p (λ c. Ok (put_at t.machine.cells a c))) (end t))
-      go (Ok c) (Ok d) r = cells_by _ _ (put_cell thr s.machine.cells t.machine.cells cs a c d r)
-      go (Ok c) (Err n) r = absurd r
-      go (Err m) (Ok d) r = absurd r
-      go (Err m) (Err n) r = r
+    put_by a b = changes_by (does.written a b s) (does.written a b t) (put_cells a (write_cell (s.machine.cells a) (unheld b)) (write_cell (t.machine.cells a) (unheld b)) (written_by b (s.machine.cells a) (t.machine.cells a) (cs a)))
 
     -- open, entry, close
 
     plain_same : (x y : Cell) → CellBy R x y → is_plain x ≡ is_plain y
-    plain_same absent absent r = refl
-    plain_same absent (plain y) r = absurd r
-    plain_same absent (board y) r = absurd r
-    plain_same (plain x) absent r = absurd r
-    plain_same (plain x) (plain y) r = refl
-    plain_same (plain x) (board y) r = absurd r
-    plain_same (board x) absent r = absurd r
-    plain_same (board x) (plain y) r = absurd r
-    plain_same (board x) (board y) r = refl
+    plain_same = one_kind R (λ x y. is_plain x ≡ is_plain y) refl (λ _ _ _. refl) (λ _. refl)
 
     checked_same : (places : List ℕ) → checked s.machine.cells places ≡ checked t.machine.cells places
     checked_same [] = refl
@@ -255,17 +215,7 @@ module _ {R : Rel Marked} {E : Type 0} (thr : Through R E) (V : Rel Answer) (equ
           go false (Err n) = inl (equal (refused n) (refused n) refl refl, h)
 
     write_plain : (x y : Cell) (m n : Marked) → is_plain x ≡ Ok tt → CellBy R x y → R m n → Same (CellBy R) (write_cell x m) (write_cell y n)
-    write_plain absent y m n e r q = absurd (let z : ◌≡◌ {A = ℕ} 0 1 = cc in omega arith)
-    write_plain (plain x) absent m n e r q = absurd r
-    write_plain (plain x) (plain y) m n e r q = q
-    write_plain (plain x) (board y) m n e r q = absurd r
-    write_plain (board x) y m n e r q = absurd (let z : ◌≡◌ {A = ℕ} 0 1 = cc in omega arith)
-
-    put_cells : (a : ℕ) (o p : Result Cell ℕ) → Same (CellBy R) o p → Same (TerminalBy R) (and_then (and_then o (λ c. Ok (put_at s.machine.cells a c))) (λ xs. Ok (with_cells s xs))) (and_then (and_then p (λ c. Ok (put_at t.machine.cells a c))) (λ ys. Ok (with_cells t ys)))
-    put_cells a (Ok c) (Ok d) r = cells_by _ _ (put_cell thr s.machine.cells t.machine.cells cs a c d r)
-    put_cells a (Ok c) (Err n) r = absurd r
-    put_cells a (Err m) (Ok d) r = absurd r
-    put_cells a (Err m) (Err n) r = r
+    write_plain x y m n e r q = one_kind R (λ x y. is_plain x ≡ Ok tt → Same (CellBy R) (write_cell x m) (write_cell y n)) not_both (λ _ _ _ _. q) (λ _ f. not_both f) x y r e
 
     pub entry_by : (p q : Seal) (first count offset b c : ℕ) → R (marked b (mark_of p)) (marked c (mark_of q)) → RespondBy R E V (changes s (does.entered (interval p first count) offset b s)) (changes t (does.entered (interval q first count) offset c t))
     entry_by p q first count offset b c r = changes_by (does.entered (interval p first count) offset b s) (does.entered (interval q first count) offset c t) (outer (leb count offset) refl) where
@@ -293,7 +243,7 @@ module _ {R : Rel Marked} {E : Type 0} (thr : Through R E) (V : Rel Answer) (equ
       outer true e = refl
       outer false e =
           subst (λ (o : Result (Unit {0}) ℕ). Same (TerminalBy R) (and_then (cells_entered xs first count offset m) (λ zs. Ok (with_cells s zs))) (and_then (and_then o (λ _. cells_written ys a n)) (λ zs. Ok (with_cells t zs)))) (checked_same (addresses first count))
-          (inner (below count offset e) (checked xs (addresses first count)) refl)
+          (inner (leb-false count offset e) (checked xs (addresses first count)) refl)
 
     pub close_by : (p q : Seal) (first count : ℕ) → ((n : ℕ) → V (unclosed n (interval p first count)) (unclosed n (interval q first count))) →
         (checked s.machine.cells (addresses first count) ≡ Ok tt → All (λ a. byte_in (s.machine.cells a) ≡ byte_in (t.machine.cells a)) (addresses first count)) →

@@ -1,10 +1,10 @@
 -- Noninterference and transparency. Assumes nothing.
-use Rattle.std.proofs.Common.{◌≡◌, ℕ, zero, suc, Bool, true, false, cond, T, eqb, List, [], ◌∷◌, map, replicate, Ok, Err, Result, sym, refl, ap, ◌∙◌, subst, inl, inr, ⊎_elim, eqb→eq}
-use lib.Dec.{eqb_refl}
+use Rattle.std.proofs.Common.{◌≡◌, ℕ, zero, suc, Bool, true, false, cond, eqb, List, [], ◌∷◌, map, replicate, Ok, Err, Result, sym, refl, ap, ◌∙◌, subst, inl, inr, ⊎_elim}
+use Rattle.std.proofs.lemmas.Bool.{eqb-true, eqb-false}
 use Rattle.marks.specs.declared.Marked.{Marked}
 use Rattle.marks.specs.Marks.{held, unheld}
 use Rattle.marks.specs.Relations.{Rel, Alike, Bare, Pointwise, All}
-use Rattle.buses.specs.Cells.{Cell, Cells, absent, plain, board}
+use Rattle.buses.specs.Cells.{Cell, Cells}
 use Rattle.units.specs.Laws.{Keeps, Quiet, IdleMarks, Clean, ContentsBy, OutcomeBy}
 use Rattle.units.specs.Meaning.{Contents, Meaning, fresh}
 use Rattle.cpu.specs.Instructions.{served}
@@ -17,7 +17,8 @@ use Rattle.terminal.specs.Theorems.{Any, LaysOpen, NeverLaysOpen, Noninterferenc
 use Rattle.terminal.proofs.Cores.{cleared_by}
 use Rattle.terminal.proofs.Effects.{Serves}
 use Rattle.terminal.proofs.Follow.{Same, alike_keeps, alike_through, apart, bare_keeps, bare_through}
-use Rattle.terminal.proofs.Responding.{RespondBy, is_plain_answer, true_is, load_by, start_by, raise_by, cell_by, register_told, status_told, run_told, put_by, open_by, entry_by, close_by}
+use Rattle.terminal.proofs.OneKind.{one_kind}
+use Rattle.terminal.proofs.Responding.{RespondBy, is_plain_answer, load_by, start_by, raise_by, cell_by, register_told, status_told, run_told, put_by, open_by, entry_by, close_by}
 
 -- what a unit keeps, its service keeps
 serves_by : {R : Rel Marked} (op : Meaning) (codes : ℕ → Bool) → Keeps R op → Serves R (served op codes)
@@ -30,8 +31,8 @@ serves_by {R} op codes keeps code c d x y p q = go (codes code) where
 stable : (m n : ℕ) → ((m ≡ n → ⊥) → ⊥) → m ≡ n
 stable m n k = go (eqb m n) refl where
   go : (b : Bool) → eqb m n ≡ b → m ≡ n
-  go true e = eqb→eq m n (true_is (eqb m n) e)
-  go false e = absurd (k (λ same. subst T (ap (λ (j : ℕ). eqb m j) same ∙ e) (eqb_refl m)))
+  go true e = eqb-true m n e
+  go false e = absurd (k (eqb-false m n e))
 
 none_unequal : (f g : ℕ → ℕ) (xs : List ℕ) → (Any (λ a. f a ≡ g a → ⊥) xs → ⊥) → All (λ a. f a ≡ g a) xs
 none_unequal f g [] n = tt
@@ -121,15 +122,7 @@ module _ (op : Meaning) (codes : ℕ → Bool) (idle : IdleMarks op) (clean : Cl
   equal a b p e = plain_unsealed a p ∙ e
 
   bare_byte : (x y : Cell) → CellBy Bare x y → byte_in x ≡ byte_in y
-  bare_byte absent absent r = refl
-  bare_byte absent (plain y) r = absurd r
-  bare_byte absent (board y) r = absurd r
-  bare_byte (plain x) absent r = absurd r
-  bare_byte (plain x) (plain y) r = r.0
-  bare_byte (plain x) (board y) r = absurd r
-  bare_byte (board x) absent r = absurd r
-  bare_byte (board x) (plain y) r = absurd r
-  bare_byte (board x) (board y) r = r
+  bare_byte = one_kind Bare (λ x y. byte_in x ≡ byte_in y) refl (λ m n r. r.0) (λ _. refl)
 
   bare_bytes : (xs ys : Cells) → CellsBy Bare xs ys → (places : List ℕ) → All (λ a. byte_in (xs a) ≡ byte_in (ys a)) places
   bare_bytes xs ys h [] = tt
