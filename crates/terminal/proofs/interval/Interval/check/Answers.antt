@@ -8,8 +8,7 @@ pub loop-offset-preserved : goal.loop-offset-preserved
 loop-offset-preserved g c =
     let s = c.args.self.now in
     let k = c.loop-offset.offset in
-    let cells = g.B.Bus.cells c.args.bus.now in
-    (
+    let cells = g.B.Bus.cells c.args.bus.now in (
       ap (λ (r : Result (Unit {0}) ℕ). and_then r (λ _. checked cells (addresses ((s.first + (k + 1)) % 65536) (s.count - (k + 1))))) c.in_ok-plain.ensures
           ∙ sym (ap (checked cells) (from_offset s.first s.count k c.loop-offset-test.true)) ∙ c.loop-offset.invariant.0,
       omega (arith, c.loop-offset-test.true),
