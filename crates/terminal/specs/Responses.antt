@@ -5,8 +5,7 @@ use Rattle.buses.specs.declared.bus.Bus as bus_of
 use Rattle.units.specs.declared.unit.Unit as unit_of
 use Rattle.units.specs.Meaning.{Contents}
 use Rattle.cpu.specs.declared.machine.Run.{Run}
-use Rattle.cpu.specs.Instructions.{Service, served}
-use Rattle.cpu.specs.Machines.{state_of, ending_of}
+use Rattle.cpu.specs.Machines.{ending_of, service, state_of}
 use Rattle.cpu.specs.State.{cleared}
 use Rattle.terminal.specs.declared.Terminal as code
 use Rattle.terminal.specs.declared.calls.Answer as code_answer
@@ -78,22 +77,18 @@ call_of call.Status = status
 
 -- a terminal of the code, by what it contains
 abbrev pub terminal_of : {B U : Type 0} → bus_of.Ghosts B → unit_of.Ghosts U → code.Terminal B U → Terminal
-terminal_of bus unit t = record { program = vec_items t.machine.program; machine = state_of bus.cells unit.contents t.machine }
-
--- what a terminal's unit does
-abbrev pub service_of : {B U : Type 0} → unit_of.Ghosts U → code.Terminal B U → Service
-service_of unit t = served unit.operates (unit.codes t.machine.unit)
+terminal_of bus unit t = record { program = vec_items t.machine.program; machine = state_of bus unit t.machine }
 
 -- a call: its answer and the terminal afterwards are those that are defined; hidden cells and the unit's codes stay
 pub record Responds {B U : Type 0} (bus : bus_of.Ghosts B) (unit : unit_of.Ghosts U) (before after : code.Terminal B U) (k : Call) (a : Answer) : Type 0 where
-  pub answers : a ≡ (respond (service_of unit before) k (terminal_of bus unit before)).0
-  pub leaves : terminal_of bus unit after ≡ (respond (service_of unit before) k (terminal_of bus unit before)).1
+  pub answers : a ≡ (respond (service unit before.machine.unit) k (terminal_of bus unit before)).0
+  pub leaves : terminal_of bus unit after ≡ (respond (service unit before.machine.unit) k (terminal_of bus unit before)).1
   pub hides : bus.hidden after.machine.bus ≡ bus.hidden before.machine.bus
   pub keeps : unit.codes after.machine.unit ≡ unit.codes before.machine.unit
 
 -- a list of calls: all answers, and the terminal at the end
 abbrev pub performed_of : {B U : Type 0} → bus_of.Ghosts B → unit_of.Ghosts U → code.Terminal B U → List code_call.Call → List Answer × Terminal
-performed_of bus unit t calls = performed (service_of unit t) (map call_of calls) (terminal_of bus unit t)
+performed_of bus unit t calls = performed (service unit t.machine.unit) (map call_of calls) (terminal_of bus unit t)
 
 -- a terminal is made in the state after a load, with 1 pair and no program
 abbrev pub made : Cells → Contents → Terminal

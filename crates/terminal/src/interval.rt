@@ -1,5 +1,6 @@
 // A betting interval that is open.
 ghost use Rattle.std.specs.Prelude.{◌≡◌, ◌<◌, Some};
+ghost use Rattle.buses.specs.Changes.{Becomes};
 ghost use Rattle.terminal.specs.Names.{seal_text};
 ghost use Rattle.terminal.specs.Numbers.{numbered};
 ghost use Rattle.terminal.specs.Terminals.{cells_entered, cells_of, checked, is_plain, left, lifted, mark_of, told};
@@ -78,8 +79,7 @@ impl Interval {
     ) -> Result<(), Refusal>
         requires { offset < self.now.count }
         ensures told { numbered result ≡ told (cells_entered (B.Bus.cells bus.old) self.now.first self.now.count offset value) }
-        ensures cells { B.Bus.cells bus.new ≡ left (B.Bus.cells bus.old) (cells_entered (B.Bus.cells bus.old) self.now.first self.now.count offset value) }
-        ensures hidden { B.Bus.hidden bus.new ≡ B.Bus.hidden bus.old }
+        ensures bus { Becomes B.Bus bus.old bus.new (left (B.Bus.cells bus.old) (cells_entered (B.Bus.cells bus.old) self.now.first self.now.count offset value)) }
     {
         self.check(bus)?;
         bus.write(self.first.wrapping_add(offset), value)
@@ -88,8 +88,7 @@ impl Interval {
 
     // Lifts the bytes of all cells.
     pub(crate) fn lift<B: Bus>(&self, bus: &mut B)
-        ensures cells { B.Bus.cells bus.new ≡ lifted (B.Bus.cells bus.old) (cells_of self.now) }
-        ensures hidden { B.Bus.hidden bus.new ≡ B.Bus.hidden bus.old }
+        ensures { Becomes B.Bus bus.old bus.new (lifted (B.Bus.cells bus.old) (cells_of self.now)) }
     {
         for offset in 0..self.count {
             let _ = bus.lift(self.first.wrapping_add(offset));

@@ -3,11 +3,12 @@
 
 ghost use Rattle.std.specs.Prelude.{◌≡◌, map, is_ok, IfOk, if◌then◌else◌};
 ghost use Rattle.std.specs.Vec as vectors;
+ghost use Rattle.cpu.specs.Machines.{service};
 ghost use Rattle.terminal.specs.Calls.{load, start, raise, run, put, opening, entry, close, cell, register, status};
 ghost use Rattle.terminal.specs.Numbers.{numbered};
 ghost use Rattle.terminal.specs.Terminals.{shown};
 ghost use Rattle.terminal.specs.Theorems.{Noninterference, Transparency};
-ghost use Rattle.terminal.specs.Responses.{Responds, made, terminal_of, service_of, performed_of, done_of, byte_of, opened_of, closed_of, ran_of, stands_of, answer_of, call_of};
+ghost use Rattle.terminal.specs.Responses.{Responds, made, terminal_of, performed_of, done_of, byte_of, opened_of, closed_of, ran_of, stands_of, answer_of, call_of};
 
 pub mod calls;
 pub mod interval;
@@ -225,8 +226,8 @@ impl<B: Bus, U: Unit> Terminal<B, U> {
         ensures leaves { terminal_of B.Bus U.Unit self.new ≡ (if is_ok result then (performed_of B.Bus U.Unit self.old calls.entry.items).1 else terminal_of B.Bus U.Unit self.old) }
         ensures hides { B.Bus.hidden self.new.machine.bus ≡ B.Bus.hidden self.old.machine.bus }
         ensures keeps { U.Unit.codes self.new.machine.unit ≡ U.Unit.codes self.old.machine.unit }
-        ensures noninterference { Noninterference (service_of U.Unit self.old) }
-        ensures transparency { Transparency (service_of U.Unit self.old) }
+        ensures noninterference { Noninterference (service U.Unit self.old.machine.unit) }
+        ensures transparency { Transparency (service U.Unit self.old.machine.unit) }
     {
         let mut answers = Vec::with_capacity(heap, calls.len())?;
         for call in calls {

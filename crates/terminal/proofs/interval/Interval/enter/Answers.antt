@@ -18,10 +18,13 @@ returns-clause-told g c =
     passes c.write.result c.map_err.result (c.write.ensures.told ∙ takes) c.map_err.ensures.variant
     ∙ sym (ap told (entered_is cells s.first s.count k m (omega arith) c.requires all) ∙ written_told cells a (write_cell (cells a) m) ∙ takes)
 
-pub returns-clause-cells : goal.returns-clause-cells
-returns-clause-cells g c =
+pub returns-clause-bus : goal.returns-clause-bus
+returns-clause-bus g c =
     let s = c.args.self.now in
     let m = c.args.value in
     let cells = g.B.Bus.cells c.args.bus.now in
     let a = (s.first + c.args.offset) % 65536 in
-    c.write.ensures.cells ∙ sym (ap (left cells) (entered_is cells s.first s.count c.args.offset m (omega arith) c.requires (sym c.in_ok-check.ensures)) ∙ written_left cells a (write_cell (cells a) m))
+    record {
+      cells = c.write.ensures.cells ∙ sym (ap (left cells) (entered_is cells s.first s.count c.args.offset m (omega arith) c.requires (sym c.in_ok-check.ensures)) ∙ written_left cells a (write_cell (cells a) m));
+      hidden = c.write.ensures.hidden;
+    }
