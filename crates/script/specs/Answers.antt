@@ -1,15 +1,16 @@
 -- Answers as text. Assumes nothing.
-use Rattle.std.specs.Prelude.{ℕ, Bool, true, false, List, [], ◌++◌, codes, decimal}
+use Rattle.std.specs.Prelude.{ℕ, Bool, true, false, List, [], ◌++◌, Ok, Err, Result, codes, decimal}
 use Rattle.cpu.specs.Faults.{Layer, of_core, of_bus, of_unit, Stop, stop_of}
 use Rattle.cpu.specs.declared.machine.Ending.{Ending}
 use Rattle.cpu.specs.declared.machine.Ending.TheVariants as ending
 use Rattle.cpu.specs.declared.machine.Run.{Run}
-use Rattle.cpu.specs.declared.state.Mode.{Mode}
-use Rattle.cpu.specs.declared.state.Mode.TheVariants.{Idle, Going, Waiting, Ended, Faulted}
+use Rattle.cpu.specs.Names.{mode_name}
 use Rattle.terminal.specs.declared.calls.Answer.{Answer}
 use Rattle.terminal.specs.declared.calls.Answer.TheVariants as answer
 use Rattle.terminal.specs.declared.calls.Refusal.{Refusal}
 use Rattle.terminal.specs.declared.calls.Standing.{Standing}
+use Rattle.terminal.specs.declared.calls.Unmade.{Unmade}
+use Rattle.terminal.specs.declared.calls.Unmade.TheVariants as unmade
 use Rattle.terminal.specs.Numbers.{number}
 use Rattle.script.specs.Text.{hex_text}
 
@@ -37,13 +38,6 @@ ending_text (ending.Fault fault) = stop_text (stop_of fault.cause) fault.pc
 abbrev pub run_text : Run → List ℕ
 run_text r = decimal r.steps ++ (codes " steps, " ++ (decimal r.cycles ++ (codes " cycles, " ++ ending_text r.ending)))
 
-abbrev pub mode_name : Mode → List ℕ
-mode_name Idle = codes "idle"
-mode_name Going = codes "going"
-mode_name Waiting = codes "waiting"
-mode_name Ended = codes "ended"
-mode_name Faulted = codes "faulted"
-
 abbrev pub yes_no : Bool → List ℕ
 yes_no true = codes "yes"
 yes_no false = codes "no"
@@ -61,11 +55,11 @@ abbrev pub refusal_text : Refusal → List ℕ
 refusal_text r = codes "refused " ++ decimal (number r)
 
 -- an interval that is opened or handed back is not told
-abbrev pub answer_text : Answer → List ℕ
-answer_text answer.Done = codes "done"
-answer_text (answer.Opened interval) = codes "done"
-answer_text (answer.Ran r) = run_text r
-answer_text (answer.Byte byte) = hex_text 2 byte
-answer_text (answer.Stands s) = standing_text s
-answer_text (answer.Refused r) = refusal_text r
-answer_text (answer.Unclosed u) = refusal_text u.refusal
+abbrev pub answer_text : Result Answer Unmade → List ℕ
+answer_text (Ok answer.Done) = codes "done"
+answer_text (Ok (answer.Opened interval)) = codes "done"
+answer_text (Ok (answer.Ran r)) = run_text r
+answer_text (Ok (answer.Byte byte)) = hex_text 2 byte
+answer_text (Ok (answer.Stands s)) = standing_text s
+answer_text (Err (unmade.Refused r)) = refusal_text r
+answer_text (Err (unmade.Unclosed u)) = refusal_text u.refusal

@@ -1,34 +1,20 @@
 // Answers as text.
 ghost use Rattle.std.specs.Prelude.{◌≡◌, ◌++◌, IfOk, Some, string_bytes, codes};
 ghost use Rattle.terminal.specs.Numbers.{number};
-ghost use Rattle.script.specs.Answers.{ending_text, run_text, mode_name, yes_no, standing_text, refusal_text, answer_text};
+ghost use Rattle.script.specs.Answers.{ending_text, run_text, yes_no, standing_text, refusal_text, answer_text};
 
 use super::causes::FaultShown;
-use super::text::{HexByte, HexPlace, HexWord};
+use super::text::{HexPlace, HexWord};
 use cpu::machine::{Ending, Run};
-use cpu::state::Mode;
 use std::alloc::{AllocError, Global};
 use std::fmt;
-use terminal::calls::{Answer, Refusal, Standing};
+use terminal::calls::{Answer, Refusal, Standing, Unmade};
 
 // The number of a refusal.
 pub fn refusal_number(refusal: Refusal) -> u8
     ensures { result ≡ number refusal }
 {
-    match refusal {
-        Refusal::ProgramLength => 1,
-        Refusal::PairsRange => 2,
-        Refusal::LineRange => 3,
-        Refusal::RegisterRange => 4,
-        Refusal::IntervalRange => 5,
-        Refusal::OffsetRange => 6,
-        Refusal::BudgetRange => 7,
-        Refusal::AbsentCell => 20,
-        Refusal::BoardCell => 21,
-        Refusal::HeldByte => 22,
-        Refusal::NoProgram => 23,
-        Refusal::NotRunning => 24,
-    }
+    refusal as u8
 }
 
 // How a run ended, to be written.
@@ -40,10 +26,7 @@ impl fmt::Display for EndingShown {
 
     fn fmt<W: fmt::Write>(&self, f: &mut fmt::Formatter<W>) -> fmt::Result {
         match self.0 {
-            Ending::Said(byte) => {
-                let byte = HexByte(byte);
-                write!(f, "said {byte}")
-            }
+            Ending::Said(byte) => write!(f, "said 0x{byte:02x}"),
             Ending::Ended => write!(f, "ended"),
             Ending::Spent => write!(f, "spent"),
             Ending::Waiting => write!(f, "waiting"),
@@ -64,18 +47,6 @@ fn run_text(heap: Global, run: Run) -> Result<String, AllocError>
     format!(in heap; "{steps} steps, {cycles} cycles, {ending}")
 }
 
-fn mode_name(mode: Mode) -> &'static str
-    ensures { result.now ≡ mode_name mode }
-{
-    match mode {
-        Mode::Idle => "idle",
-        Mode::Going => "going",
-        Mode::Waiting => "waiting",
-        Mode::Ended => "ended",
-        Mode::Faulted => "faulted",
-    }
-}
-
 fn yes_no(answer: bool) -> &'static str
     ensures { result.now ≡ yes_no answer }
 {
@@ -85,7 +56,7 @@ fn yes_no(answer: bool) -> &'static str
 fn standing_text(heap: Global, standing: Standing) -> Result<String, AllocError>
     ensures { IfOk result (λ t. string_bytes t ≡ standing_text standing) }
 {
-    let mode = mode_name(standing.mode);
+    let mode = standing.mode;
     let pc = HexPlace(standing.pc);
     let sp = HexWord(standing.sp);
     let ie = HexWord(standing.enabled);
@@ -101,25 +72,26 @@ fn refusal_text(heap: Global, refusal: Refusal) -> Result<String, AllocError>
     format!(in heap; "refused {number}")
 }
 
-// What a call answered.
-pub fn answer_text(heap: Global, answer: &Answer) -> Result<String, AllocError>
+// What a call answered, or why it was not made.
+pub fn answer_text(heap: Global, answer: &Result<Answer, Unmade>) -> Result<String, AllocError>
     ensures { IfOk result (λ t. string_bytes t ≡ answer_text answer.now) }
 {
     match answer {
-        Answer::Done | Answer::Opened(_) => String::from_str(heap, "done"),
-        Answer::Ran(run) => run_text(heap, *run),
-        Answer::Byte(byte) => {
-            let byte = HexByte(*byte);
-            format!(in heap; "{byte}")
-        }
-        Answer::Stands(standing) => standing_text(heap, *standing),
-        Answer::Refused(refusal) => refusal_text(heap, *refusal),
-        Answer::Unclosed(unclosed) => refusal_text(heap, unclosed.refusal),
+        Ok(Answer::Done | Answer::Opened(_)) => String::from_str(heap, "done"),
+        Ok(Answer::Ran(run)) => run_text(heap, *run),
+        Ok(Answer::Byte(byte)) => format!(in heap; "0x{byte:02x}"),
+        Ok(Answer::Stands(standing)) => standing_text(heap, *standing),
+        Err(Unmade::Refused(refusal)) => refusal_text(heap, *refusal),
+        Err(Unmade::Unclosed(unclosed)) => refusal_text(heap, unclosed.refusal),
     }
 }
 
 // A label and what its call answered.
-pub fn answer_line(heap: Global, label: &[u8], answer: &Answer) -> Result<Vec<u8>, AllocError>
+pub fn answer_line(
+    heap: Global,
+    label: &[u8],
+    answer: &Result<Answer, Unmade>,
+) -> Result<Vec<u8>, AllocError>
     ensures { IfOk result (λ v. v.items ≡ label.now ++ (codes ": " ++ answer_text answer.now)) }
 {
     let text = answer_text(heap, answer)?;

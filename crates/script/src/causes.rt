@@ -1,8 +1,5 @@
 // What stopped an instruction, as text.
 ghost use Rattle.std.specs.Prelude.{◌≡◌, Some};
-ghost use Rattle.buses.specs.Numbers.{number as bus_number};
-ghost use Rattle.isa.specs.Numbers.{number as word_number};
-ghost use Rattle.units.specs.Numbers.{number as unit_number};
 ghost use Rattle.cpu.specs.Faults.{stop_of};
 ghost use Rattle.script.specs.Answers.{stop_text};
 
@@ -10,46 +7,18 @@ use super::text::{HexPlace, HexWord};
 use cpu::faults::{Cause, Fault};
 use std::fmt;
 
-fn word_number(refusal: isa::Refusal) -> u8
-    ensures { result ≡ word_number refusal }
-{
-    match refusal {
-        isa::Refusal::OperandOutOfField => 10,
-        isa::Refusal::MissingByte => 30,
-        isa::Refusal::ReservedWord => 31,
-    }
-}
-
-fn bus_number(refusal: buses::bus::Refusal) -> u8
-    ensures { result ≡ bus_number refusal }
-{
-    match refusal {
-        buses::bus::Refusal::UnfitMemories => 9,
-        buses::bus::Refusal::AbsentCell => 20,
-        buses::bus::Refusal::HeldToBoard => 25,
-    }
-}
-
-fn unit_number(refusal: units::unit::Refusal) -> u8
-    ensures { result ≡ unit_number refusal }
-{
-    match refusal {
-        units::unit::Refusal::LackingCode => 26,
-    }
-}
-
 // The number of a cause.
 pub(crate) fn cause_number(cause: Cause) -> u8
     ensures { result ≡ (stop_of cause).number }
 {
     match cause {
-        Cause::Word(refusal) => word_number(refusal),
+        Cause::Word(refusal) => refusal as u8,
         Cause::NoHandler => 32,
         Cause::HeldBranch => 33,
         Cause::HeldPair => 34,
         Cause::HeldReturn => 35,
-        Cause::Bus(refusal, _) => bus_number(refusal),
-        Cause::Unit(refusal, _) => unit_number(refusal),
+        Cause::Bus(refusal, _) => refusal as u8,
+        Cause::Unit(refusal, _) => refusal as u8,
     }
 }
 

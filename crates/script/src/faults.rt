@@ -1,8 +1,10 @@
 // Why a line of a script is not read.
-ghost use Rattle.std.specs.Prelude.{◌≡◌};
+ghost use Rattle.std.specs.Prelude.{◌≡◌, Some};
 ghost use Rattle.script.specs.declared.faults.ReadError.TheVariants.{Wrong, NoMemory};
+ghost use Rattle.script.specs.Told.{fault_name};
 
 use std::alloc::{AllocError, AllocFailed};
+use std::fmt;
 
 // What is wrong with a line.
 #[derive(Clone, Copy, Debug, PartialEq, Eq)]
@@ -15,6 +17,23 @@ pub enum Fault {
     NoBytes,
     NoSeal,
     NoUnit,
+}
+
+impl fmt::Display for Fault {
+    ghost output = { λ fault. Some (fault_name fault) };
+
+    fn fmt<W: fmt::Write>(&self, f: &mut fmt::Formatter<W>) -> fmt::Result {
+        f.write_str(match self {
+            Fault::UnknownWord => "unknown word",
+            Fault::MissingWord => "a word is missing",
+            Fault::ExtraWord => "a word too many",
+            Fault::NoNumber => "a word that is no number",
+            Fault::TooLarge => "a number that is too large",
+            Fault::NoBytes => "a word that is no pairs of hex digits",
+            Fault::NoSeal => "a word that is neither sealed nor practice",
+            Fault::NoUnit => "a word that is neither aes nor cham",
+        })
+    }
 }
 
 // Why a line is not read: it is wrong, or memory did not suffice.

@@ -1,11 +1,11 @@
 // The lines of a script.
 ghost use Rattle.std.specs.Prelude.{◌≡◌};
-ghost use Rattle.script.specs.Lines.{said_of, optional, pair_told, bytes_said, load_said, put_said, entry_said, opened_said, operands_said, count_said, line_said};
+ghost use Rattle.script.specs.Lines.{said_of, optional, entry_said, opened_said, operands_said, count_said, line_said};
 ghost use Rattle.script.specs.Reads.{Reads};
 ghost use Rattle.script.specs.Settings.{is_setting};
 
 use super::faults::{Fault, ReadError};
-use super::operands::{UnitName, bytes_at, name_at, seal_at, u8_at, u16_at, u32_at, unit_at};
+use super::operands::{UnitName, bytes_at, name_at, operand_at};
 use super::verbs::{Verb, verb_of};
 use super::words::word_at;
 use std::alloc::Global;
@@ -45,38 +45,11 @@ pub enum Line {
     Status,
 }
 
-// An address and bytes.
-fn bytes_operands(heap: Global, text: &[u8]) -> Result<(u16, Vec<u8>), ReadError>
-    ensures { Reads pair_told result (bytes_said text.now) }
-{
-    let address = u16_at(text, 1)?;
-    let bytes = bytes_at(heap, text, 2)?;
-    Ok((address, bytes))
-}
-
-// A number of saved pairs and a program.
-fn load_operands(heap: Global, text: &[u8]) -> Result<(u8, Vec<u8>), ReadError>
-    ensures { Reads pair_told result (load_said text.now) }
-{
-    let pairs = u8_at(text, 1)?;
-    let program = bytes_at(heap, text, 2)?;
-    Ok((pairs, program))
-}
-
-// An address and a byte.
-fn put_operands(text: &[u8]) -> Result<(u16, u8), Fault>
-    ensures { result ≡ put_said text.now }
-{
-    let address = u16_at(text, 1)?;
-    let byte = u8_at(text, 2)?;
-    Ok((address, byte))
-}
-
 fn read_entry(heap: Global, text: &[u8]) -> Result<Line, ReadError>
     ensures { Reads said_of result (entry_said text.now) }
 {
-    let offset = u16_at(text, 2)?;
-    let byte = u8_at(text, 3)?;
+    let offset = operand_at(text, 2)?;
+    let byte = operand_at(text, 3)?;
     let name = name_at(heap, text, 1)?;
     Ok(Line::Entry(name, offset, byte))
 }
@@ -84,9 +57,9 @@ fn read_entry(heap: Global, text: &[u8]) -> Result<Line, ReadError>
 fn read_open(heap: Global, text: &[u8]) -> Result<Line, ReadError>
     ensures { Reads said_of result (opened_said text.now) }
 {
-    let seal = seal_at(text, 2)?;
-    let first = u16_at(text, 3)?;
-    let count = u16_at(text, 4)?;
+    let seal = operand_at(text, 2)?;
+    let first = operand_at(text, 3)?;
+    let count = operand_at(text, 4)?;
     let name = name_at(heap, text, 1)?;
     Ok(Line::Open(name, seal, first, count))
 }
@@ -96,33 +69,21 @@ fn read_operands(heap: Global, verb: Verb, text: &[u8]) -> Result<Line, ReadErro
     ensures { Reads said_of result (operands_said verb text.now) }
 {
     match verb {
-        Verb::Memory => Ok(Line::Memory(u32_at(text, 1)?)),
-        Verb::Bytes => {
-            let (address, bytes) = bytes_operands(heap, text)?;
-            Ok(Line::Bytes(address, bytes))
-        }
-        Verb::Held => {
-            let (address, bytes) = bytes_operands(heap, text)?;
-            Ok(Line::Held(address, bytes))
-        }
-        Verb::Board => Ok(Line::Board(u8_at(text, 1)?)),
-        Verb::Unit => Ok(Line::Unit(unit_at(text, 1)?)),
-        Verb::Load => {
-            let (pairs, program) = load_operands(heap, text)?;
-            Ok(Line::Load(pairs, program))
-        }
+        Verb::Memory => Ok(Line::Memory(operand_at(text, 1)?)),
+        Verb::Bytes => Ok(Line::Bytes(operand_at(text, 1)?, bytes_at(heap, text, 2)?)),
+        Verb::Held => Ok(Line::Held(operand_at(text, 1)?, bytes_at(heap, text, 2)?)),
+        Verb::Board => Ok(Line::Board(operand_at(text, 1)?)),
+        Verb::Unit => Ok(Line::Unit(operand_at(text, 1)?)),
+        Verb::Load => Ok(Line::Load(operand_at(text, 1)?, bytes_at(heap, text, 2)?)),
         Verb::Start => Ok(Line::Start),
-        Verb::Raise => Ok(Line::Raise(u8_at(text, 1)?)),
-        Verb::Run => Ok(Line::Run(u32_at(text, 1)?)),
-        Verb::Put => {
-            let (address, byte) = put_operands(text)?;
-            Ok(Line::Put(address, byte))
-        }
+        Verb::Raise => Ok(Line::Raise(operand_at(text, 1)?)),
+        Verb::Run => Ok(Line::Run(operand_at(text, 1)?)),
+        Verb::Put => Ok(Line::Put(operand_at(text, 1)?, operand_at(text, 2)?)),
         Verb::Open => read_open(heap, text),
         Verb::Entry => read_entry(heap, text),
         Verb::Close => Ok(Line::Close(name_at(heap, text, 1)?)),
-        Verb::Cell => Ok(Line::Cell(u16_at(text, 1)?)),
-        Verb::Register => Ok(Line::Register(u8_at(text, 1)?)),
+        Verb::Cell => Ok(Line::Cell(operand_at(text, 1)?)),
+        Verb::Register => Ok(Line::Register(operand_at(text, 1)?)),
         Verb::Status => Ok(Line::Status),
     }
 }
@@ -149,9 +110,7 @@ pub fn read_line(heap: Global, text: &[u8]) -> Result<Option<Line>, ReadError>
     if first.is_empty() {
         return Ok(None);
     }
-    let Some(verb) = verb_of(first) else {
-        return Err(ReadError::Wrong(Fault::UnknownWord));
-    };
+    let verb = verb_of(first).ok_or(Fault::UnknownWord)?;
     check_count(verb, text)?;
     let line = read_operands(heap, verb, text)?;
     Ok(Some(line))

@@ -1,52 +1,34 @@
 // Numbers of a line.
-ghost use Rattle.std.specs.Prelude.{◌≡◌, ◌≤◌, IfOk};
-ghost use Rattle.script.specs.Numbers.{digit_of, digit_in, radix, base_of, digits_of, value_from, capped, number_up_to};
+ghost use Rattle.std.specs.Prelude.{◌≡◌, ◌≤◌, ◌<◌, IfOk, IfSome};
+ghost use Rattle.script.specs.Numbers.{digit_in, radix, base_of, digits_of, value_from, capped, number_up_to};
 
 use super::faults::Fault;
 
 // What a digit counts for.
 #[derive(Clone, Copy)]
-enum Base {
-    Ten,
-    Sixteen,
+pub(crate) enum Base {
+    Ten = 10,
+    Sixteen = 16,
 }
 
 // No number is read further than this, which is too large for any use.
 const CAP: u64 = 0x1_0000_0000;
 
-// The value of a hex digit in either case.
-pub(crate) fn digit_value(b: u8) -> Option<u8>
-    ensures { result ≡ digit_of b }
-{
-    match b {
-        b'0'..=b'9' => Some(b - b'0'),
-        b'A'..=b'F' => Some(b - b'A' + 10),
-        b'a'..=b'f' => Some(b - b'a' + 10),
-        _ => None,
-    }
-}
-
 impl Base {
-    // The value of a digit.
-    fn digit(self, b: u8) -> Option<u8>
-        ensures { result ≡ digit_in self b }
+    fn radix(self) -> u32
+        ensures value { result ≡ radix self }
+        ensures low { 2 ≤ result }
+        ensures high { result ≤ 16 }
     {
-        match self {
-            Base::Sixteen => digit_value(b),
-            Base::Ten => match b {
-                b'0'..=b'9' => Some(b - b'0'),
-                _ => None,
-            },
-        }
+        self as u32
     }
 
-    fn radix(self) -> u64
-        ensures { result ≡ radix self }
+    // The value of a digit, of either case where it is a hex digit.
+    pub(crate) fn digit(self, b: u8) -> Option<u32>
+        ensures value { result ≡ digit_in self b }
+        ensures small { IfSome result (λ d. d < 16) }
     {
-        match self {
-            Base::Ten => 10,
-            Base::Sixteen => 16,
-        }
+        char::from(b).to_digit(self.radix())
     }
 }
 
@@ -55,11 +37,9 @@ fn digits(word: &[u8]) -> (Base, &[u8])
     ensures base { result.0 ≡ base_of word.now }
     ensures digits { result.1.now ≡ digits_of word.now }
 {
-    if word.len() >= 2 && word[0] == b'0' && word[1] == b'x' {
-        let (_, digits) = word.split_at(2);
-        (Base::Sixteen, digits)
-    } else {
-        (Base::Ten, word)
+    match word {
+        [b'0', b'x', digits @ ..] => (Base::Sixteen, digits),
+        _ => (Base::Ten, word),
     }
 }
 
@@ -69,10 +49,8 @@ fn value(base: Base, digits: &[u8]) -> Option<u64>
 {
     let mut value = 0;
     for b in digits {
-        let Some(digit) = base.digit(*b) else {
-            return None;
-        };
-        value = (value * base.radix() + digit as u64).min(CAP);
+        let digit = base.digit(*b)?;
+        value = (value * u64::from(base.radix()) + u64::from(digit)).min(CAP);
     }
     Some(value)
 }

@@ -1,5 +1,6 @@
 // The words that follow the first.
-ghost use Rattle.std.specs.Prelude.{◌≡◌, Ok, vec_items};
+ghost use Rattle.std.specs.Prelude.{◌≡◌, ℕ, List, Ok, Result, vec_items};
+ghost use Rattle.script.specs.declared.faults.Fault.{Fault};
 ghost use Rattle.script.specs.Bytes.{bytes_of};
 ghost use Rattle.script.specs.Numbers.{number_up_to};
 ghost use Rattle.script.specs.Operands.{seal_of, unit_of};
@@ -9,7 +10,6 @@ ghost use Rattle.script.specs.Words.{word_at};
 use super::bytes::read_bytes;
 use super::faults::{Fault, ReadError};
 use super::numbers::read_number;
-use super::verbs::is_word;
 use super::words::word_at;
 use std::alloc::Global;
 use terminal::interval::Seal;
@@ -21,28 +21,67 @@ pub enum UnitName {
     Cham,
 }
 
-pub(crate) fn u8_at(text: &[u8], n: usize) -> Result<u8, Fault>
-    ensures { result ≡ number_up_to 255 (word_at n text.now) }
-{
-    match read_number(word_at(text, n), 255) {
-        Ok(number) => Ok(number as u8),
-        Err(fault) => Err(fault),
+// A value that a word says, or what is wrong with the word.
+pub(crate) trait Operand: Sized {
+    ghost said: { List ℕ → Result Self Fault };
+
+    fn read(word: &[u8]) -> Result<Self, Fault>
+        ensures { result ≡ said word.now };
+}
+
+impl Operand for u8 {
+    ghost said = { number_up_to 255 };
+
+    fn read(word: &[u8]) -> Result<u8, Fault> {
+        Ok(read_number(word, 255)? as u8)
     }
 }
 
-pub(crate) fn u16_at(text: &[u8], n: usize) -> Result<u16, Fault>
-    ensures { result ≡ number_up_to 65535 (word_at n text.now) }
-{
-    match read_number(word_at(text, n), 65535) {
-        Ok(number) => Ok(number as u16),
-        Err(fault) => Err(fault),
+impl Operand for u16 {
+    ghost said = { number_up_to 65535 };
+
+    fn read(word: &[u8]) -> Result<u16, Fault> {
+        Ok(read_number(word, 65535)? as u16)
     }
 }
 
-pub(crate) fn u32_at(text: &[u8], n: usize) -> Result<u32, Fault>
-    ensures { result ≡ number_up_to 4294967295 (word_at n text.now) }
+impl Operand for u32 {
+    ghost said = { number_up_to 4294967295 };
+
+    fn read(word: &[u8]) -> Result<u32, Fault> {
+        read_number(word, u32::MAX)
+    }
+}
+
+impl Operand for Seal {
+    ghost said = { seal_of };
+
+    fn read(word: &[u8]) -> Result<Seal, Fault> {
+        match word {
+            b"sealed" => Ok(Seal::Sealed),
+            b"practice" => Ok(Seal::Practice),
+            _ => Err(Fault::NoSeal),
+        }
+    }
+}
+
+impl Operand for UnitName {
+    ghost said = { unit_of };
+
+    fn read(word: &[u8]) -> Result<UnitName, Fault> {
+        match word {
+            b"aes" => Ok(UnitName::Aes),
+            b"cham" => Ok(UnitName::Cham),
+            _ => Err(Fault::NoUnit),
+        }
+    }
+}
+
+// What the word that so many stand before says.
+pub(crate) fn operand_at<T: Operand>(text: &[u8], n: usize) -> Result<T, Fault>
+    ensures { result ≡ T.said (word_at n text.now) }
 {
-    read_number(word_at(text, n), u32::MAX)
+    T::read(word_at(text, n))
 }
 
 pub(crate) fn bytes_at(heap: Global, text: &[u8], n: usize) -> Result<Vec<u8>, ReadError>
@@ -55,34 +94,5 @@ pub(crate) fn bytes_at(heap: Global, text: &[u8], n: usize) -> Result<Vec<u8>, R
 pub(crate) fn name_at(heap: Global, text: &[u8], n: usize) -> Result<Vec<u8>, ReadError>
     ensures { Reads vec_items result (Ok (word_at n text.now)) }
 {
-    match Vec::from_slice(heap, word_at(text, n)) {
-        Ok(name) => Ok(name),
-        Err(_) => Err(ReadError::NoMemory),
-    }
-}
-
-pub(crate) fn seal_at(text: &[u8], n: usize) -> Result<Seal, Fault>
-    ensures { result ≡ seal_of (word_at n text.now) }
-{
-    let word = word_at(text, n);
-    if is_word(word, "sealed") {
-        Ok(Seal::Sealed)
-    } else if is_word(word, "practice") {
-        Ok(Seal::Practice)
-    } else {
-        Err(Fault::NoSeal)
-    }
-}
-
-pub(crate) fn unit_at(text: &[u8], n: usize) -> Result<UnitName, Fault>
-    ensures { result ≡ unit_of (word_at n text.now) }
-{
-    let word = word_at(text, n);
-    if is_word(word, "aes") {
-        Ok(UnitName::Aes)
-    } else if is_word(word, "cham") {
-        Ok(UnitName::Cham)
-    } else {
-        Err(Fault::NoUnit)
-    }
+    Ok(Vec::from_slice(heap, word_at(text, n))?)
 }

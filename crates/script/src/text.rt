@@ -1,12 +1,11 @@
 // Numbers in hex digits.
-ghost use Rattle.std.specs.Prelude.{◌≡◌, ◌<◌, Some};
-ghost use Rattle.script.specs.Text.{hex_digit, hex_text};
+ghost use Rattle.std.specs.Prelude.{Some};
+ghost use Rattle.script.specs.Text.{hex_text};
 
 use std::fmt;
 
-// A byte, written with two digits.
-#[derive(Clone, Copy)]
-pub(crate) struct HexByte(pub u8);
+// Two types, since a place drops four bits before its digits and a word drops none: one type for any count of
+// digits would have to compute what it drops.
 
 // A place in a program, which has twelve bits, written with three digits.
 #[derive(Clone, Copy)]
@@ -16,32 +15,13 @@ pub(crate) struct HexPlace(pub u16);
 #[derive(Clone, Copy)]
 pub(crate) struct HexWord(pub u16);
 
-// The digit of a number below 16.
-pub(crate) fn hex_digit(n: u8) -> u8
-    requires { n < 16 }
-    ensures { result ≡ hex_digit n }
-{
-    if n < 10 { b'0' + n } else { b'a' - 10 + n }
-}
-
-impl fmt::Display for HexByte {
-    ghost output = { λ x. Some (hex_text 2 x.0) };
-
-    fn fmt<W: fmt::Write>(&self, f: &mut fmt::Formatter<W>) -> fmt::Result {
-        let a = hex_digit(self.0 / 16 % 16) as char;
-        let b = hex_digit(self.0 % 16) as char;
-        write!(f, "0x{a}{b}")
-    }
-}
-
 impl fmt::Display for HexPlace {
     ghost output = { λ x. Some (hex_text 3 x.0) };
 
     fn fmt<W: fmt::Write>(&self, f: &mut fmt::Formatter<W>) -> fmt::Result {
-        let a = hex_digit((self.0 / 256 % 16) as u8) as char;
-        let b = hex_digit((self.0 / 16 % 16) as u8) as char;
-        let c = hex_digit((self.0 % 16) as u8) as char;
-        write!(f, "0x{a}{b}{c}")
+        let [high, low] = self.0.to_be_bytes();
+        let high = high % 16;
+        write!(f, "0x{high:x}{low:02x}")
     }
 }
 
@@ -49,10 +29,7 @@ impl fmt::Display for HexWord {
     ghost output = { λ x. Some (hex_text 4 x.0) };
 
     fn fmt<W: fmt::Write>(&self, f: &mut fmt::Formatter<W>) -> fmt::Result {
-        let a = hex_digit((self.0 / 4096 % 16) as u8) as char;
-        let b = hex_digit((self.0 / 256 % 16) as u8) as char;
-        let c = hex_digit((self.0 / 16 % 16) as u8) as char;
-        let d = hex_digit((self.0 % 16) as u8) as char;
-        write!(f, "0x{a}{b}{c}{d}")
+        let [high, low] = self.0.to_be_bytes();
+        write!(f, "0x{high:02x}{low:02x}")
     }
 }

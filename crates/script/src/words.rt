@@ -19,12 +19,7 @@ fn blank_count(text: &[u8]) -> usize
     ensures within { result ≤ length text.now }
     ensures value { result ≡ blank_count text.now }
 {
-    for (at, b) in text.iter().enumerate() {
-        if !is_blank(*b) {
-            return at;
-        }
-    }
-    text.len()
+    text.iter().position(|b| !is_blank(*b)).unwrap_or(text.len())
 }
 
 // How many characters at the front end no word.
@@ -32,12 +27,7 @@ fn word_length(text: &[u8]) -> usize
     ensures within { result ≤ length text.now }
     ensures value { result ≡ word_length text.now }
 {
-    for (at, b) in text.iter().enumerate() {
-        if ends_word(*b) {
-            return at;
-        }
-    }
-    text.len()
+    text.iter().position(|b| ends_word(*b)).unwrap_or(text.len())
 }
 
 // The first word, empty if there is none, and what follows it.

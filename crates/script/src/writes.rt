@@ -1,15 +1,23 @@
 // Lines as they are written.
-ghost use Rattle.std.specs.Prelude.{◌≡◌, [], ◌∷◌, ◌++◌, IfOk, OnOk};
+ghost use Rattle.std.specs.Prelude.{◌≡◌, ℕ, ◌<◌, List, [], ◌∷◌, ◌++◌, IfOk, OnOk};
 ghost use Rattle.script.specs.Lines.{said_of};
-ghost use Rattle.script.specs.Text.{hex_of};
-ghost use Rattle.script.specs.Writes.{number_text, u8_text, u16_text, u32_text, unit_text, seal_text, operand_words, trail, written_of, Small, Sized, ReadBack};
+ghost use Rattle.script.specs.Text.{hex_digit, hex_of};
+ghost use Rattle.terminal.specs.Names.{seal_text};
+ghost use Rattle.script.specs.Writes.{number_text, u8_text, u16_text, u32_text, unit_text, operand_words, trail, written_of, Small, Sized, ReadBack};
 
 use super::labels::first_word;
 use super::lines::Line;
 use super::operands::UnitName;
-use super::text::hex_digit;
 use std::alloc::{AllocError, Global};
 use terminal::interval::Seal;
+
+// The digit of a number below 16; char::from_digit answers an Option of a char, to be taken apart for each digit.
+fn hex_digit(n: u8) -> u8
+    requires { n < 16 }
+    ensures { result ≡ hex_digit n }
+{
+    if n < 10 { b'0' + n } else { b'a' - 10 + n }
+}
 
 // Adds the digits of some bytes, two to a byte.
 fn push_hex(text: &mut Vec<u8>, bytes: &[u8]) -> Result<(), AllocError>
@@ -36,8 +44,7 @@ fn push_bytes(text: &mut Vec<u8>, bytes: &[u8]) -> Result<(), AllocError>
     ensures { OnOk result (text.new.items ≡ text.old.items ++ (32 ∷ hex_of bytes.now)) }
 {
     text.push(b' ')?;
-    push_hex(text, bytes)?;
-    Ok(())
+    push_hex(text, bytes)
 }
 
 // Adds the number that has these bytes, the highest first.
@@ -45,82 +52,86 @@ fn push_number(text: &mut Vec<u8>, bytes: &[u8]) -> Result<(), AllocError>
     ensures { OnOk result (text.new.items ≡ text.old.items ++ (32 ∷ number_text bytes.now)) }
 {
     text.extend_from_slice(b" 0x")?;
-    push_hex(text, bytes)?;
-    Ok(())
+    push_hex(text, bytes)
 }
 
-fn push_u8(text: &mut Vec<u8>, n: u8) -> Result<(), AllocError>
-    ensures { OnOk result (text.new.items ≡ text.old.items ++ (32 ∷ u8_text n)) }
-{
-    push_number(text, &[n])
+// A value that is written as a word.
+trait Word: Sized {
+    ghost written: { Self → List ℕ };
+
+    fn push_to(self, text: &mut Vec<u8>) -> Result<(), AllocError>
+        ensures { OnOk result (text.new.items ≡ text.old.items ++ (32 ∷ written self)) };
 }
 
-fn push_u16(text: &mut Vec<u8>, n: u16) -> Result<(), AllocError>
-    ensures { OnOk result (text.new.items ≡ text.old.items ++ (32 ∷ u16_text n)) }
-{
-    push_number(text, &[(n / 256) as u8, (n % 256) as u8])
-}
+impl Word for u8 {
+    ghost written = { u8_text };
 
-fn push_u32(text: &mut Vec<u8>, n: u32) -> Result<(), AllocError>
-    ensures { OnOk result (text.new.items ≡ text.old.items ++ (32 ∷ u32_text n)) }
-{
-    let a = (n / 16777216) as u8;
-    let b = (n / 65536 % 256) as u8;
-    let c = (n / 256 % 256) as u8;
-    let d = (n % 256) as u8;
-    push_number(text, &[a, b, c, d])
-}
-
-fn unit_text(name: UnitName) -> &'static str
-    ensures { result.now ≡ unit_text name }
-{
-    match name {
-        UnitName::Aes => "aes",
-        UnitName::Cham => "cham",
+    fn push_to(self, text: &mut Vec<u8>) -> Result<(), AllocError> {
+        push_number(text, &[self])
     }
 }
 
-fn seal_text(seal: Seal) -> &'static str
-    ensures { result.now ≡ seal_text seal }
-{
-    match seal {
-        Seal::Sealed => "sealed",
-        Seal::Practice => "practice",
+impl Word for u16 {
+    ghost written = { u16_text };
+
+    fn push_to(self, text: &mut Vec<u8>) -> Result<(), AllocError> {
+        let [high, low] = self.to_be_bytes();
+        push_number(text, &[high, low])
     }
 }
 
-fn push_address_and_bytes(text: &mut Vec<u8>, address: u16, bytes: &[u8]) -> Result<(), AllocError>
-    ensures text { OnOk result (text.new.items ≡ text.old.items ++ trail (u16_text address ∷ (hex_of bytes.now ∷ []))) }
+impl Word for u32 {
+    ghost written = { u32_text };
+
+    fn push_to(self, text: &mut Vec<u8>) -> Result<(), AllocError> {
+        push_number(text, &self.to_be_bytes())
+    }
+}
+
+impl Word for UnitName {
+    ghost written = { unit_text };
+
+    fn push_to(self, text: &mut Vec<u8>) -> Result<(), AllocError> {
+        match self {
+            UnitName::Aes => push_word(text, b"aes"),
+            UnitName::Cham => push_word(text, b"cham"),
+        }
+    }
+}
+
+// Its Display writes to no Vec of bytes without an error of another kind.
+impl Word for Seal {
+    ghost written = { seal_text };
+
+    fn push_to(self, text: &mut Vec<u8>) -> Result<(), AllocError> {
+        match self {
+            Seal::Sealed => push_word(text, b"sealed"),
+            Seal::Practice => push_word(text, b"practice"),
+        }
+    }
+}
+
+// Adds a value and bytes.
+fn push_with_bytes<T: Word>(text: &mut Vec<u8>, n: T, bytes: &[u8]) -> Result<(), AllocError>
+    ensures text { OnOk result (text.new.items ≡ text.old.items ++ trail (T.written n ∷ (hex_of bytes.now ∷ []))) }
     ensures fits { Small bytes.now }
 {
-    push_u16(text, address)?;
-    push_bytes(text, bytes)?;
-    Ok(())
-}
-
-fn push_load(text: &mut Vec<u8>, pairs: u8, program: &[u8]) -> Result<(), AllocError>
-    ensures text { OnOk result (text.new.items ≡ text.old.items ++ trail (u8_text pairs ∷ (hex_of program.now ∷ []))) }
-    ensures fits { Small program.now }
-{
-    push_u8(text, pairs)?;
-    push_bytes(text, program)?;
-    Ok(())
+    n.push_to(text)?;
+    push_bytes(text, bytes)
 }
 
 fn push_put(text: &mut Vec<u8>, address: u16, byte: u8) -> Result<(), AllocError>
     ensures { OnOk result (text.new.items ≡ text.old.items ++ trail (u16_text address ∷ (u8_text byte ∷ []))) }
 {
-    push_u16(text, address)?;
-    push_u8(text, byte)?;
-    Ok(())
+    address.push_to(text)?;
+    byte.push_to(text)
 }
 
 fn push_entry(text: &mut Vec<u8>, name: &[u8], offset: u16, byte: u8) -> Result<(), AllocError>
     ensures { OnOk result (text.new.items ≡ text.old.items ++ trail (name.now ∷ (u16_text offset ∷ (u8_text byte ∷ [])))) }
 {
     push_word(text, name)?;
-    push_put(text, offset, byte)?;
-    Ok(())
+    push_put(text, offset, byte)
 }
 
 fn push_open(
@@ -133,10 +144,9 @@ fn push_open(
     ensures { OnOk result (text.new.items ≡ text.old.items ++ trail (name.now ∷ (seal_text seal ∷ (u16_text first ∷ (u16_text count ∷ []))))) }
 {
     push_word(text, name)?;
-    push_word(text, seal_text(seal).as_bytes())?;
-    push_u16(text, first)?;
-    push_u16(text, count)?;
-    Ok(())
+    seal.push_to(text)?;
+    first.push_to(text)?;
+    count.push_to(text)
 }
 
 // Adds the words that follow the first.
@@ -145,20 +155,20 @@ fn push_operands(text: &mut Vec<u8>, line: &Line) -> Result<(), AllocError>
     ensures fits { Sized (said_of line.now) }
 {
     match line {
-        Line::Memory(n) => push_u32(text, *n),
-        Line::Bytes(address, bytes) => push_address_and_bytes(text, *address, bytes),
-        Line::Held(address, bytes) => push_address_and_bytes(text, *address, bytes),
-        Line::Board(page) => push_u8(text, *page),
-        Line::Unit(name) => push_word(text, unit_text(*name).as_bytes()),
-        Line::Load(pairs, program) => push_load(text, *pairs, program),
-        Line::Raise(n) => push_u8(text, *n),
-        Line::Run(budget) => push_u32(text, *budget),
+        Line::Memory(n) => n.push_to(text),
+        Line::Bytes(address, bytes) => push_with_bytes(text, *address, bytes),
+        Line::Held(address, bytes) => push_with_bytes(text, *address, bytes),
+        Line::Board(page) => page.push_to(text),
+        Line::Unit(name) => name.push_to(text),
+        Line::Load(pairs, program) => push_with_bytes(text, *pairs, program),
+        Line::Raise(n) => n.push_to(text),
+        Line::Run(budget) => budget.push_to(text),
         Line::Put(address, byte) => push_put(text, *address, *byte),
         Line::Open(name, seal, first, count) => push_open(text, name, *seal, *first, *count),
         Line::Entry(name, offset, byte) => push_entry(text, name, *offset, *byte),
         Line::Close(name) => push_word(text, name),
-        Line::Cell(address) => push_u16(text, *address),
-        Line::Register(n) => push_u8(text, *n),
+        Line::Cell(address) => address.push_to(text),
+        Line::Register(n) => n.push_to(text),
         Line::Start | Line::Status => Ok(()),
     }
 }

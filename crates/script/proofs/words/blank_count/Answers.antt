@@ -1,15 +1,12 @@
-use Rattle.std.proofs.Common.{sym, arith}
-use Rattle.script.proofs.Splitting.{blanks_more, blanks_stop, blanks_all}
+use Rattle.std.proofs.Common.{refl, rules, tests, not}
+use Rattle.std.proofs.lemmas.Iterator.{YieldsList-from_slice}
+use Rattle.std.proofs.lemmas.Iterator.Search.{position_from_yields_List}
+use Rattle.script.specs.Words.{is_blank, blank_count}
+use Rattle.script.proofs.Splitting.{counted, blanks_first}
 use Rattle.script.proofs.words.blank_count.Goals as goal
 
-pub returns-then-not-is_blank : goal.returns-then-not-is_blank
-returns-then-not-is_blank c = record {
-  within = omega arith;
-  value = blanks_stop c.args.text.now c.loop-at.at _ (omega arith) (sym c.if-not-is_blank.ensures) c.loop-at.invariant;
-}
-
-pub loop-at-preserved : goal.loop-at-preserved
-loop-at-preserved c = blanks_more c.args.text.now c.loop-at.at _ (omega arith) (sym c.if-not-is_blank.ensures) c.loop-at.invariant
-
-pub returns : goal.returns
-returns c = record { within = omega arith; value = blanks_all c.args.text.now c.loop-at.at _ (omega arith) (omega arith) c.loop-at.invariant }
+pub returns-clause-value : goal.returns-clause-value
+returns-clause-value c =
+    counted blank_count (λ b. not (is_blank b)) c.args.text.now refl blanks_first c.position.result
+    (position_from_yields_List _ _ _ _ c.position.ensures.ran (YieldsList-from_slice c.args.text.now c.iter.ensures.rest) (λ x b q k. search (rules, tests)))
+    c.unwrap_or.ensures

@@ -1,15 +1,12 @@
-use Rattle.std.proofs.Common.{sym, arith}
-use Rattle.script.proofs.Splitting.{word_more, word_stop, word_all}
+use Rattle.std.proofs.Common.{refl, rules, tests}
+use Rattle.std.proofs.lemmas.Iterator.{YieldsList-from_slice}
+use Rattle.std.proofs.lemmas.Iterator.Search.{position_from_yields_List}
+use Rattle.script.specs.Words.{ends_word, word_length}
+use Rattle.script.proofs.Splitting.{counted, letters_first}
 use Rattle.script.proofs.words.word_length.Goals as goal
 
-pub returns-then-ends_word : goal.returns-then-ends_word
-returns-then-ends_word c = record {
-  within = omega arith;
-  value = word_stop c.args.text.now c.loop-at.at _ (omega arith) (sym c.if-ends_word.ensures) c.loop-at.invariant;
-}
-
-pub loop-at-preserved : goal.loop-at-preserved
-loop-at-preserved c = word_more c.args.text.now c.loop-at.at _ (omega arith) (sym c.if-ends_word.ensures) c.loop-at.invariant
-
-pub returns : goal.returns
-returns c = record { within = omega arith; value = word_all c.args.text.now c.loop-at.at _ (omega arith) (omega arith) c.loop-at.invariant }
+pub returns-clause-value : goal.returns-clause-value
+returns-clause-value c =
+    counted word_length ends_word c.args.text.now refl letters_first c.position.result
+    (position_from_yields_List _ _ _ _ c.position.ensures.ran (YieldsList-from_slice c.args.text.now c.iter.ensures.rest) (λ x b q k. search (rules, tests)))
+    c.unwrap_or.ensures

@@ -1,5 +1,6 @@
 use Rattle.std.proofs.Common.{[], ◌∷◌, vec_items, ◌∙◌}
-use Rattle.script.specs.Writes.{u16_text, seal_text}
+use Rattle.terminal.specs.Names.{seal_text}
+use Rattle.script.specs.Writes.{u16_text}
 use Rattle.script.proofs.Trails.{push_then, push_last, pushed_as}
 use Rattle.script.proofs.writes.push_open.Goals as goal
 

@@ -1,6 +1,7 @@
 use Rattle.std.proofs.Common.{◌≡◌, [], ◌∷◌, ◌++◌, IfOk, vec_items, sym, subst, arith}
 use Rattle.script.specs.Lines.{said_of}
-use Rattle.script.specs.Writes.{u8_text, u16_text, seal_text, operand_words, trail, Sized}
+use Rattle.terminal.specs.Names.{seal_text}
+use Rattle.script.specs.Writes.{u8_text, u16_text, operand_words, trail, Sized}
 use Rattle.script.proofs.writes.push_operands.Goals as goal
 
 pub returns-in-Memory : goal.returns-in-Memory
