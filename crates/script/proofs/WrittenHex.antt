@@ -1,10 +1,8 @@
 -- Hex digits as they are written. Assumes nothing.
-use Rattle.std.proofs.Common.{◌≡◌, ℕ, ◌+◌, ◌/◌, ◌%◌, ◌<◌, ◌^◌, ◌-◌, Bool, false, cond, List, [], ◌∷◌, ◌++◌, length, get_or, take, sym, refl, ap, ◌∙◌, append_assoc, w16, arith, rules}
-use lib.Utf8.{encode}
-use Rattle.std.proofs.lemmas.Str.Ascii.{encode_ascii}
+use Rattle.std.proofs.Common.{◌≡◌, ℕ, ◌+◌, ◌/◌, ◌%◌, ◌<◌, false, List, [], ◌∷◌, ◌++◌, length, get_or, take, sym, refl, ap, ◌∙◌, append_assoc, w16, w32, arith}
 use Rattle.std.proofs.lemmas.List.{take_more}
 use Rattle.std.specs.Int.{to_be_bytes}
-use Rattle.std.specs.Fmt.{digits, digit_glyph, padded_integral, format_spec}
+use Rattle.std.specs.Fmt.{digits, padded_integral, format_spec}
 use Rattle.std.proofs.lemmas.Fmt.{hex_byte, hex_one_digit}
 use Rattle.script.specs.Text.{hex_digit, hex_of, hex_digits, hex_text}
 
@@ -58,3 +56,6 @@ module _ (bytes : List ℕ) (n : ℕ) (small : n < 65536) (is : bytes ≡ to_be_
   place_written =
       (λ i. 48 ∷ 120 ∷ (hex_one_digit false (get_or bytes 0 0 % 16) (omega arith) i ++ byte_digits (get_or bytes 1 0) (omega (arith, low)) i))
       ∙ (λ i. 48 ∷ 120 ∷ hex_digit (second i) ∷ hex_digit (third i) ∷ hex_digit (last i) ∷ [])
+
+pub four_bytes : (n : ℕ) → n < 4294967296 → to_be_bytes w32 n ≡ n / 16777216 ∷ n / 65536 % 256 ∷ n / 256 % 256 ∷ n % 256 ∷ []
+four_bytes n small = ap (λ k. k ∷ n / 65536 % 256 ∷ n / 256 % 256 ∷ n % 256 ∷ []) (let e : n / 16777216 % 256 ≡ n / 16777216 = omega arith in e)

@@ -1,6 +1,7 @@
 // Answers as text.
 ghost use Rattle.std.specs.Prelude.{◌≡◌, ◌++◌, IfOk, Some, string_bytes, codes};
 ghost use Rattle.terminal.specs.Numbers.{number};
+ghost use Rattle.script.specs.Text.{hex_text};
 ghost use Rattle.script.specs.Answers.{ending_text, run_text, yes_no, standing_text, refusal_text, answer_text};
 
 use super::causes::FaultShown;
@@ -72,6 +73,12 @@ fn refusal_text(heap: Global, refusal: Refusal) -> Result<String, AllocError>
     format!(in heap; "refused {number}")
 }
 
+fn byte_text(heap: Global, byte: u8) -> Result<String, AllocError>
+    ensures { IfOk result (λ t. string_bytes t ≡ hex_text 2 byte) }
+{
+    format!(in heap; "0x{byte:02x}")
+}
+
 // What a call answered, or why it was not made.
 pub fn answer_text(heap: Global, answer: &Result<Answer, Unmade>) -> Result<String, AllocError>
     ensures { IfOk result (λ t. string_bytes t ≡ answer_text answer.now) }
@@ -79,7 +86,7 @@ pub fn answer_text(heap: Global, answer: &Result<Answer, Unmade>) -> Result<Stri
     match answer {
         Ok(Answer::Done | Answer::Opened(_)) => String::from_str(heap, "done"),
         Ok(Answer::Ran(run)) => run_text(heap, *run),
-        Ok(Answer::Byte(byte)) => format!(in heap; "0x{byte:02x}"),
+        Ok(Answer::Byte(byte)) => byte_text(heap, *byte),
         Ok(Answer::Stands(standing)) => standing_text(heap, *standing),
         Err(Unmade::Refused(refusal)) => refusal_text(heap, *refusal),
         Err(Unmade::Unclosed(unclosed)) => refusal_text(heap, unclosed.refusal),

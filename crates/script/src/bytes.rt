@@ -26,5 +26,9 @@ pub(crate) fn read_bytes(heap: Global, word: &[u8]) -> Result<Vec<u8>, ReadError
         bytes.push(pair(*a, *b).ok_or(Fault::NoBytes)?)?;
         rest = others;
     }
-    if rest.is_empty() { Ok(bytes) } else { Err(Fault::NoBytes.into()) }
+    if rest.is_empty() {
+        Ok(bytes)
+    } else {
+        Err(Fault::NoBytes.into())
+    }
 }

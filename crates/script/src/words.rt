@@ -19,7 +19,9 @@ fn blank_count(text: &[u8]) -> usize
     ensures within { result ≤ length text.now }
     ensures value { result ≡ blank_count text.now }
 {
-    text.iter().position(|b| !is_blank(*b)).unwrap_or(text.len())
+    text.iter()
+        .position(|b| !is_blank(*b))
+        .unwrap_or(text.len())
 }
 
 // How many characters at the front end no word.
@@ -27,7 +29,9 @@ fn word_length(text: &[u8]) -> usize
     ensures within { result ≤ length text.now }
     ensures value { result ≡ word_length text.now }
 {
-    text.iter().position(|b| ends_word(*b)).unwrap_or(text.len())
+    text.iter()
+        .position(|b| ends_word(*b))
+        .unwrap_or(text.len())
 }
 
 // The first word, empty if there is none, and what follows it.

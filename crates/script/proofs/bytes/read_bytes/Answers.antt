@@ -1,4 +1,4 @@
-use Rattle.std.proofs.Common.{vec_items, sym, arith, rules, []}
+use Rattle.std.proofs.Common.{vec_items, arith, rules}
 use Rattle.std.proofs.lemmas.Bool.Decides.{nat_tests}
 use Rattle.script.proofs.Pairs.{byte_more, byte_none, byte_odd, bytes_all, shorter}
 use Rattle.script.proofs.bytes.read_bytes.Goals as goal

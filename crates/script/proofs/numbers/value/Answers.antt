@@ -1,4 +1,4 @@
-use Rattle.std.proofs.Common.{◌+◌, ◌*◌, min, sym, ap, ◌∙◌, arith}
+use Rattle.std.proofs.Common.{sym, ◌∙◌, arith}
 use Rattle.script.proofs.Values.{digit_more, digit_none, digits_all}
 use Rattle.script.proofs.numbers.value.Goals as goal
 

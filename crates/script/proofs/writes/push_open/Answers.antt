@@ -1,7 +1,7 @@
-use Rattle.std.proofs.Common.{[], ◌∷◌, vec_items, ◌∙◌}
+use Rattle.std.proofs.Common.{[], ◌∷◌, vec_items}
 use Rattle.terminal.specs.Names.{seal_text}
 use Rattle.script.specs.Writes.{u16_text}
-use Rattle.script.proofs.Trails.{push_then, push_last, pushed_as}
+use Rattle.script.proofs.Trails.{push_then, push_last, on_ok}
 use Rattle.script.proofs.writes.push_open.Goals as goal
 
 pub returns : goal.returns
@@ -11,10 +11,10 @@ returns c =
     let count = u16_text c.args.count in
     let old = vec_items c.args.text.now in
     let named = vec_items c.push_word.new.text in
-    let sealed = vec_items c.push_word-2.new.text in
-    let begun = vec_items c.push_u16.new.text in
-    let new = vec_items c.push_u16-2.new.text in
-    let told = pushed_as named c.as_bytes.result.now seal sealed (c.as_bytes.ensures.value ∙ c.seal_text.ensures) c.in_ok-push_word-2.ensures in
+    let sealed = vec_items c.push_to.new.text in
+    let begun = vec_items c.push_to-2.new.text in
+    let new = vec_items c.push_to-3.new.text in
+    on_ok c.push_to-3.result c.push_to-3.ensures (λ e.
     push_then old c.args.name.now (seal ∷ (first ∷ (count ∷ []))) {mid = named} {new = new} c.in_ok-push_word.ensures
-    (push_then named seal (first ∷ (count ∷ [])) {mid = sealed} {new = new} told
-    (push_then sealed first (count ∷ []) {mid = begun} {new = new} c.in_ok-push_u16.ensures (push_last begun count {new = new} c.in_ok-push_u16-2.ensures)))
+    (push_then named seal (first ∷ (count ∷ [])) {mid = sealed} {new = new} c.in_ok-push_to.ensures
+    (push_then sealed first (count ∷ []) {mid = begun} {new = new} c.in_ok-push_to-2.ensures (push_last begun count {new = new} e))))

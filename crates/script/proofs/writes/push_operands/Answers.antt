@@ -7,16 +7,16 @@ use Rattle.script.proofs.writes.push_operands.Goals as goal
 pub returns-in-Memory : goal.returns-in-Memory
 returns-in-Memory c = record {
   text =
-      subst (λ l. IfOk c.push_u32.result (λ _. vec_items c.push_u32.new.text ≡ vec_items c.args.text.now ++ trail (operand_words (said_of l)))) (sym c.in-Memory.is)
-      c.push_u32.ensures;
+      subst (λ l. IfOk c.push_to.result (λ _. vec_items c.push_to.new.text ≡ vec_items c.args.text.now ++ trail (operand_words (said_of l)))) (sym c.in-Memory.is)
+      c.push_to.ensures;
   fits = subst (λ l. Sized (said_of l)) (sym c.in-Memory.is) (omega arith);
 }
 
 pub returns-in-Run : goal.returns-in-Run
 returns-in-Run c = record {
   text =
-      subst (λ l. IfOk c.push_u32-in-Run.result (λ _. vec_items c.push_u32-in-Run.new.text ≡ vec_items c.args.text.now ++ trail (operand_words (said_of l)))) (sym c.in-Run.is)
-      c.push_u32-in-Run.ensures;
+      subst (λ l. IfOk c.push_to-in-Run.result (λ _. vec_items c.push_to-in-Run.new.text ≡ vec_items c.args.text.now ++ trail (operand_words (said_of l)))) (sym c.in-Run.is)
+      c.push_to-in-Run.ensures;
   fits = subst (λ l. Sized (said_of l)) (sym c.in-Run.is) (omega arith);
 }
 
