@@ -1,6 +1,5 @@
 -- What a line says. Assumes nothing.
-use Rattle.std.specs.Prelude.{ℕ, ◌+◌, cond, List, length, Some, None, Ok, Err, vec_items, Option, Result, Vec, ◌==◌}
-use Rattle.std.specs.declared.alloc.Global.{Global}
+use Rattle.std.specs.Prelude.{ℕ, ◌+◌, cond, List, length, Some, None, Ok, Err, vec_items, Option, Result, ◌==◌}
 use Rattle.terminal.specs.declared.interval.Seal.{Seal}
 use Rattle.script.specs.declared.faults.Fault.{Fault}
 use Rattle.script.specs.declared.faults.Fault.TheVariants.{UnknownWord, MissingWord, ExtraWord}
@@ -56,9 +55,6 @@ said_of line.Status = status
 abbrev pub optional : Option Line → Option Said
 optional None = None
 optional (Some l) = Some (said_of l)
-
-abbrev pub pair_told : (ℕ × Vec ℕ Global) → (ℕ × List ℕ)
-pair_told p = (p.0, vec_items p.1)
 
 -- the numbers of a line, of 8, 16 and 32 bits
 abbrev pub u8_at : ℕ → List ℕ → Result ℕ Fault

@@ -6,7 +6,7 @@ ghost use Rattle.script.specs.Lines.{said_of};
 use super::lines::Line;
 use std::alloc::{AllocError, Global};
 
-// The first word of a line.
+// The first word of a line: text, not its Display, which would be all that is written of the line.
 pub(crate) fn first_word(line: &Line) -> &'static str
     ensures { result.now ≡ first_of (said_of line.now) }
 {

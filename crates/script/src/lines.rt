@@ -16,7 +16,7 @@ use terminal::interval::Seal;
 pub enum Line {
     // the number of cells
     Memory(u32),
-    // the first address, the bytes
+    // the first address, the bytes; two words of the script, so two variants
     Bytes(u16, Vec<u8>),
     // the first address, the bytes
     Held(u16, Vec<u8>),
@@ -45,6 +45,7 @@ pub enum Line {
     Status,
 }
 
+// The heap goes beside the text, since a type of both would only be taken apart again.
 fn read_entry(heap: Global, text: &[u8]) -> Result<Line, ReadError>
     ensures { Reads said_of result (entry_said text.now) }
 {
