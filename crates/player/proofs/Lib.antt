@@ -1,3 +1,2 @@
-mod Bytewise
-mod Putting
+mod SplitLines
 mod Turns

@@ -2,6 +2,7 @@
 #![tactic(auto)]
 
 pub mod failure;
+mod memories;
 mod names;
 pub mod play;
 mod reading;

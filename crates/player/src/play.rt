@@ -1,7 +1,8 @@
 // Playing a script: the calls are made one by one, and each answer is a line.
 use super::failure::Failure;
+use super::memories::Memories;
 use super::names::{Named, find};
-use super::reading::{Numbered, Wanted, fill, read_script, wanted_machine};
+use super::reading::{Numbered, Wanted, read_script, wanted_machine};
 use buses::board::OddsBoard;
 use buses::bus::Bus;
 use buses::store::Store;
@@ -258,15 +259,9 @@ pub fn play(rt: &HostRuntime, text: &[u8]) -> Result<(), Failure> {
     let heap = rt.alloc();
     let lines = read_script(heap, text)?;
     let Wanted { cells, page, unit } = wanted_machine(heap, lines.as_slice())?;
-    let mut bytes = vec![in heap; 0u8; cells]?;
-    let mut marks = vec![in heap; 0u8; cells]?;
-    fill(
-        heap,
-        lines.as_slice(),
-        bytes.as_mut_slice(),
-        marks.as_mut_slice(),
-    )?;
-    let store = match Store::new(bytes.as_mut_slice(), marks.as_mut_slice()) {
+    let mut memories = Memories::new(heap, cells)?;
+    memories.fill(heap, lines.as_slice())?;
+    let store = match Store::new(memories.bytes.as_mut_slice(), memories.marks.as_mut_slice()) {
         Ok(store) => store,
         Err(_) => return Err(Failure::NoMemory),
     };

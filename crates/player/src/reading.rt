@@ -2,7 +2,6 @@
 ghost use Rattle.std.specs.Prelude.{◌≡◌, ◌+◌, ◌<◌, ◌^◌, map, MatchResult, if◌then◌else◌};
 ghost use Rattle.script.specs.Lines.{said_of};
 ghost use Rattle.player.specs.Answers.{Fails, Tells, numbered};
-ghost use Rattle.player.specs.Memories.{begun, filled, put_from};
 ghost use Rattle.script.specs.Told.{fault_name};
 ghost use Rattle.player.specs.Scripts.{script_read, sofar, taken, with_line};
 ghost use Rattle.player.specs.Wishes.{asked, usual, wanted_after};
@@ -38,23 +37,17 @@ pub struct Wanted {
 }
 
 // A line that is wrong beside the others.
-fn wrong(heap: Global, number: usize, what: &str) -> Failure
+pub(crate) fn wrong(heap: Global, number: usize, what: &str) -> Failure
     ensures { Tells result number what.now }
 {
-    match format!(in heap; "line {number}: {what}") {
-        Ok(text) => Failure::Line(text),
-        Err(_) => Failure::NoMemory,
-    }
+    format!(in heap; "line {number}: {what}").map_or_else(Failure::from, Failure::Line)
 }
 
 // A line that cannot be read.
 fn unread(heap: Global, number: usize, fault: Fault) -> Failure
     ensures { Tells result number (fault_name fault) }
 {
-    match fault_text(heap, number, fault) {
-        Ok(text) => Failure::Line(text),
-        Err(_) => Failure::NoMemory,
-    }
+    fault_text(heap, number, fault).map_or_else(Failure::from, Failure::Line)
 }
 
 impl Reading {
@@ -98,16 +91,9 @@ pub fn read_script(heap: Global, text: &[u8]) -> Result<Vec<Numbered>, Failure>
         number: 0,
         calls: false,
     };
-    let mut line = Vec::new(heap);
-    for byte in text {
-        if *byte == b'\n' {
-            reading.take(heap, line.as_slice())?;
-            line.clear();
-        } else {
-            line.push(*byte)?;
-        }
+    for line in text.split(|byte| *byte == b'\n') {
+        reading.take(heap, line)?;
     }
-    reading.take(heap, line.as_slice())?;
     Ok(reading.lines)
 }
 
@@ -115,23 +101,22 @@ pub fn read_script(heap: Global, text: &[u8]) -> Result<Vec<Numbered>, Failure>
 fn asked(heap: Global, wanted: Wanted, line: &Numbered) -> Result<Wanted, Failure>
     ensures { let said = asked wanted line.now.number (said_of line.now.line) in MatchResult result (λ w. said ≡ Ok w) (λ e. Fails e said) }
 {
-    let Wanted { cells, page, unit } = wanted;
     match &line.line {
-        Line::Memory(cells) => {
-            if *cells > 65536 {
-                return Err(wrong(heap, line.number, "memory of over 65536 cells"));
-            }
-            let cells = *cells as usize;
-            Ok(Wanted { cells, page, unit })
+        Line::Memory(cells) if *cells > 65536 => {
+            Err(wrong(heap, line.number, "memory of over 65536 cells"))
         }
-        Line::Board(page) => {
-            let page = Some(*page);
-            Ok(Wanted { cells, page, unit })
-        }
-        Line::Unit(unit) => {
-            let unit = *unit;
-            Ok(Wanted { cells, page, unit })
-        }
+        Line::Memory(cells) => Ok(Wanted {
+            cells: *cells as usize,
+            ..wanted
+        }),
+        Line::Board(page) => Ok(Wanted {
+            page: Some(*page),
+            ..wanted
+        }),
+        Line::Unit(unit) => Ok(Wanted {
+            unit: *unit,
+            ..wanted
+        }),
         _ => Ok(wanted),
     }
 }
@@ -149,48 +134,4 @@ pub fn wanted_machine(heap: Global, lines: &[Numbered]) -> Result<Wanted, Failur
         wanted = asked(heap, wanted, line)?;
     }
     Ok(wanted)
-}
-
-// Puts bytes with one mark into the two memories from an address on; false where one lies outside.
-fn put_from(bytes: &mut [u8], marks: &mut [u8], address: u16, values: &[u8], mark: u8) -> bool
-    ensures { (if result then Some (bytes.new, marks.new) else None) ≡ put_from address values.now mark (bytes.old, marks.old) }
-{
-    let mut at = address as usize;
-    for value in values {
-        if at >= bytes.len() || at >= marks.len() {
-            return false;
-        }
-        bytes[at] = *value;
-        marks[at] = mark;
-        at += 1;
-    }
-    true
-}
-
-// Puts the bytes of one line into the two memories; false where one lies outside.
-fn begin(bytes: &mut [u8], marks: &mut [u8], line: &Line) -> bool
-    ensures { (if result then Some (bytes.new, marks.new) else None) ≡ begun (said_of line.now) (bytes.old, marks.old) }
-{
-    match line {
-        Line::Bytes(address, values) => put_from(bytes, marks, *address, values.as_slice(), 0),
-        Line::Held(address, values) => put_from(bytes, marks, *address, values.as_slice(), 1),
-        _ => true,
-    }
-}
-
-// Puts the bytes that a script begins with into the two memories.
-pub fn fill(
-    heap: Global,
-    lines: &[Numbered],
-    bytes: &mut [u8],
-    marks: &mut [u8],
-) -> Result<(), Failure>
-    ensures { let said = filled (map numbered lines.now) (bytes.old, marks.old) in MatchResult result (λ _. said ≡ Ok (bytes.new, marks.new)) (λ e. Fails e said) }
-{
-    for line in lines {
-        if !begin(bytes, marks, &line.line) {
-            return Err(wrong(heap, line.number, "bytes outside the memory"));
-        }
-    }
-    Ok(())
 }

@@ -1,29 +1,40 @@
-use Rattle.std.proofs.Common.{◌≡◌, ℕ, ◌+◌, List, drop, vec_items, Ok, ap, sym, ◌∙◌, Vec, arith}
-use Rattle.std.specs.declared.alloc.Global.{Global}
-use Rattle.player.specs.declared.reading.Reading.{Reading}
-use Rattle.player.specs.Scripts.{read_on, sofar, taken, text_lines}
-use Rattle.player.proofs.Bytewise.{after_line_feed, after_byte}
+use Rattle.std.proofs.Common.{[], ◌==◌, false, map, ap, sym, ◌∙◌, rules, arith}
+use Rattle.std.proofs.iter.Serving.{serving}
+use Rattle.std.proofs.lemmas.Iterator.Splits.{YieldsList-from_slice_split}
+use Rattle.std.proofs.lemmas.Result.{err_from_is_err_and}
+use Rattle.std.proofs.lemmas.List.Splits.{length-slice_split}
+use Rattle.std.proofs.lemmas.List.Sums.{count_by-le-length}
+use Rattle.std.specs.List.{slice_split}
+use Rattle.player.specs.Answers.{numbered}
+use Rattle.player.specs.Scripts.{begin, read_on}
+use Rattle.player.proofs.SplitLines.{all_read, lines_split, stop, turn}
 use Rattle.player.proofs.reading.read_script.Goals as goal
-use Rattle.player.proofs.reading.read_script.Goals.{then-byte-eq10+in_ok-take, else-byte-eq10+in_ok-push}
 
-pub loop-byte-preserved : goal.loop-byte-preserved
-loop-byte-preserved c =
-    let i = c.loop-byte.byte-index in
-    let rest = drop (i + 1) c.args.text.now in
-    let s = sofar c.loop-byte.reading in
-    let line = vec_items c.loop-byte.line in
-    let now : (r : Reading) (xs : List ℕ) → c.if-byte-eq10.reading ≡ r → vec_items c.if-byte-eq10.line ≡ xs → read_on (sofar c.if-byte-eq10.reading) (text_lines (vec_items c.if-byte-eq10.line) rest) ≡ read_on (sofar r) (text_lines xs rest) = λ r xs e f. λ j. read_on (sofar (e j)) (text_lines (f j) rest) in
-    elim c.if-byte-eq10.branch [
-      | then-byte-eq10+in_ok-take w ↦
-          let t = w.take.new.self in
-          let took : taken s line ≡ Ok (sofar t) = ap (taken s) (sym w.as_slice.ensures.value) ∙ w.in_ok-take.ensures.read in
-          record {
-            within = omega (arith, ap (λ (r : Reading). r.number) w.reading-is, w.in_ok-take.ensures.number, c.loop-byte.invariant.within);
-            left = now t _ w.reading-is (ap (λ (v : Vec ℕ Global). vec_items v) w.line-is ∙ w.clear.ensures.items) ∙ after_line_feed s (sofar t) line c.args.text.now i _ c.loop-byte-test.true w.if-byte-eq10.true took c.loop-byte.invariant.left;
-          }
-      | else-byte-eq10+in_ok-push w ↦
-          record {
-            within = omega (arith, ap (λ (r : Reading). r.number) w.reading-is, c.loop-byte.invariant.within);
-            left = now c.loop-byte.reading _ w.reading-is (ap (λ (v : Vec ℕ Global). vec_items v) w.line-is ∙ w.in_ok-push.ensures.items) ∙ after_byte s line c.args.text.now i _ c.loop-byte-test.true w.if-byte-eq10.false c.loop-byte.invariant.left;
-          }
-    ]
+pub loop-line-init : goal.loop-line-init
+loop-line-init c =
+    let text = c.args.text.now in
+    record {
+      can_next = grind serving;
+      finite = search rules;
+      left = record {
+        parts = slice_split (λ b. b == 10) text;
+        yields = (YieldsList-from_slice_split _ (λ b. b == 10) text (search rules) (search rules) (search rules) (λ x b q k. search rules)).runs;
+        read = ap (λ items. read_on (record { lines = map numbered items; number = 0; calls = false }) (slice_split (λ b. b == 10) text)) c.new.ensures.items ∙ sym (ap (read_on begin) (lines_split [] text));
+        room = omega (arith, length-slice_split (λ b. b == 10) text, count_by-le-length (λ b. b == 10) text);
+      };
+    }
+
+pub loop-line-preserved : goal.loop-line-preserved
+loop-line-preserved c = record {
+  can_next = search rules;
+  finite = search rules;
+  left = turn _ c.loop-line.line-iterator c.next.new.self c.in-Some.line c.loop-line.reading c.take.new.self c.args.text.now c.loop-line.invariant.left c.in-Some.ensures.steps c.in_ok-take.ensures.read c.in_ok-take.ensures.number;
+}
+
+pub returns-in_err-take : goal.returns-in_err-take
+returns-in_err-take c =
+    let p = err_from_is_err_and c.from_residual.result c.from_residual.ensures.1 in
+    rw (p.1, p.2) (stop _ c.loop-line.line-iterator c.next.new.self c.in-Some.line c.loop-line.reading c.args.text.now c.in_err-take.field-0.0 c.loop-line.invariant.left c.in-Some.ensures.steps c.in_err-take.ensures.read)
+
+pub returns : goal.returns
+returns c = all_read _ c.loop-line.line-iterator c.next.new.self c.loop-line.reading c.args.text.now c.loop-line.invariant.left c.in-None.ensures.steps

@@ -1,10 +1,10 @@
--- The lines that are left are read as all are, and there were no more lines than bytes. Assumes nothing.
-use Rattle.std.proofs.Common.{◌≡◌, ◌≤◌, [], drop, vec_items}
-use Rattle.player.specs.Scripts.{begin, read_on, sofar, text_lines}
+-- The lines that are left are read as all are. Assumes nothing.
+use Rattle.player.proofs.SplitLines.{LeftToRead}
 use Rattle.player.proofs.reading.read_script.Given as goal
 
-abbrev pub invariant-loop-byte : goal.invariant-loop-byte
-invariant-loop-byte l = record {
-  within : l.reading.number ≤ l.byte-index;
-  left : read_on (sofar l.reading) (text_lines (vec_items l.line) (drop l.byte-index l.text)) ≡ read_on begin (text_lines [] l.text);
+abbrev pub invariant-loop-line : goal.invariant-loop-line
+invariant-loop-line l = record {
+  can_next : (goal.iterator-loop-line).can_next l.line-iterator;
+  finite : (goal.iterator-loop-line).is_finite l.line-iterator;
+  left : LeftToRead (goal.iterator-loop-line).next_gives l.line-iterator l.reading l.text;
 }
