@@ -2,7 +2,8 @@
 #![tactic(auto)]
 
 pub mod failure;
+mod intervals;
 mod memories;
-mod names;
 pub mod play;
 mod reading;
+mod totals;

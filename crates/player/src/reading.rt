@@ -105,18 +105,18 @@ fn asked(heap: Global, wanted: Wanted, line: &Numbered) -> Result<Wanted, Failur
         Line::Memory(cells) if *cells > 65536 => {
             Err(wrong(heap, line.number, "memory of over 65536 cells"))
         }
-        Line::Memory(cells) => Ok(Wanted {
-            cells: *cells as usize,
-            ..wanted
-        }),
-        Line::Board(page) => Ok(Wanted {
-            page: Some(*page),
-            ..wanted
-        }),
-        Line::Unit(unit) => Ok(Wanted {
-            unit: *unit,
-            ..wanted
-        }),
+        Line::Memory(cells) => {
+            let cells = *cells as usize;
+            Ok(Wanted { cells, ..wanted })
+        }
+        Line::Board(page) => {
+            let page = Some(*page);
+            Ok(Wanted { page, ..wanted })
+        }
+        Line::Unit(unit) => {
+            let unit = *unit;
+            Ok(Wanted { unit, ..wanted })
+        }
         _ => Ok(wanted),
     }
 }
