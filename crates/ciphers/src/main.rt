@@ -5,6 +5,7 @@ mod ciphers;
 mod failure;
 
 use ciphers::all_ciphers;
+use endings::ending;
 use failure::Failure;
 use std::process::ExitCode;
 use tally::Tally;
@@ -20,11 +21,5 @@ fn run(rt: &HostRuntime) -> Result<(), Failure> {
 }
 
 fn main(rt: HostRuntime) -> ExitCode {
-    match run(&rt) {
-        Ok(()) => ExitCode::SUCCESS,
-        Err(failure) => {
-            let _ = eprintln!(rt; "{failure}");
-            ExitCode::FAILURE
-        }
-    }
+    ending(&rt, run(&rt))
 }

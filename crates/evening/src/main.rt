@@ -1,6 +1,7 @@
 // Plays one evening at the tote, the demonstration, as `hokster play evening.txt` does.
 #![tactic(auto)]
 
+use endings::ending;
 use player::failure::Failure;
 use player::play::play;
 use std::fs;
@@ -13,11 +14,5 @@ fn run(rt: &HostRuntime) -> Result<(), Failure> {
 }
 
 fn main(rt: HostRuntime) -> ExitCode {
-    match run(&rt) {
-        Ok(()) => ExitCode::SUCCESS,
-        Err(failure) => {
-            let _ = eprintln!(rt; "{failure}");
-            ExitCode::FAILURE
-        }
-    }
+    ending(&rt, run(&rt))
 }

@@ -1,6 +1,7 @@
 // hokster list FILE: lists the instructions of a program. hokster play FILE: plays a script of calls.
 #![tactic(auto)]
 
+use endings::ending;
 use listing::faults::fault_text;
 use listing::hex::read_hex;
 use listing::lines::listing_text;
@@ -71,11 +72,5 @@ fn run(rt: &HostRuntime) -> Result<(), Failure> {
 }
 
 fn main(rt: HostRuntime) -> ExitCode {
-    match run(&rt) {
-        Ok(()) => ExitCode::SUCCESS,
-        Err(failure) => {
-            let _ = eprintln!(rt; "{failure}");
-            ExitCode::FAILURE
-        }
-    }
+    ending(&rt, run(&rt))
 }
