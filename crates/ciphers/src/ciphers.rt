@@ -13,9 +13,10 @@ use units::aes::Aes;
 use units::cham::Cham;
 use units::unit::Unit;
 
-// A published value: text at 0, the key, and what the cipher makes of them.
+// A published value: the program's file, text at 0, the key, and what the cipher makes of them.
 #[derive(Clone, Copy)]
 struct Published<'v> {
+    file: &'v str,
     name: &'v str,
     text: &'v [u8],
     key_at: u16,
@@ -68,28 +69,25 @@ fn sort_out(heap: Global, answers: &[Answer]) -> Result<Told, Failure> {
 // Loads a program, and opens an interval over the key and one over the text.
 fn beginning<'i>(
     heap: Global,
-    _open: &'i [Interval],
     program: &[u8],
-    value: Published<'_>,
+    value: &Published<'_>,
     seal: Seal,
 ) -> Result<Vec<Call<'i>>, Failure> {
-    let mut calls = Vec::new(heap);
     let program = Vec::from_slice(heap, program)?;
-    calls.push(Call::Load(1, program))?;
-    calls.push(Call::Open(seal, value.key_at, 16))?;
-    calls.push(Call::Open(seal, 0, (value.text.len() % 65536) as u16))?;
+    let length = (value.text.len() % 65536) as u16;
+    let calls = vec![in heap;
+        Call::Load(1, program),
+        Call::Open(seal, value.key_at, 16),
+        Call::Open(seal, 0, length),
+    ]?;
     Ok(calls)
 }
 
 // Enters the key, runs the program, and asks for the first byte of the text.
-fn running<'i>(heap: Global, open: &'i [Interval], key: &[u8]) -> Result<Vec<Call<'i>>, Failure> {
+fn running<'i>(heap: Global, interval: &'i Interval, key: &[u8]) -> Result<Vec<Call<'i>>, Failure> {
     let mut calls = Vec::new(heap);
-    let mut offset = 0u16;
-    for byte in key {
-        if let [interval, ..] = open {
-            calls.push(Call::Entry(interval, offset, *byte))?;
-        }
-        offset = offset.wrapping_add(1);
+    for (offset, byte) in (0..=u16::MAX).zip(key) {
+        calls.push(Call::Entry(interval, offset, *byte))?;
     }
     calls.push(Call::Start)?;
     calls.push(Call::Run(1000000))?;
@@ -98,18 +96,11 @@ fn running<'i>(heap: Global, open: &'i [Interval], key: &[u8]) -> Result<Vec<Cal
 }
 
 // Closes the interval over the text, and asks for all of it.
-fn showing<'i>(
-    heap: Global,
-    _open: &'i [Interval],
-    text: Interval,
-    length: usize,
-) -> Result<Vec<Call<'i>>, Failure> {
+fn showing<'i>(heap: Global, text: Interval, length: usize) -> Result<Vec<Call<'i>>, Failure> {
     let mut calls = Vec::new(heap);
     calls.push(Call::Close(text))?;
-    let mut address = 0u16;
-    for _ in 0..length {
+    for address in (0..=u16::MAX).take(length) {
         calls.push(Call::Cell(address))?;
-        address = address.wrapping_add(1);
     }
     Ok(calls)
 }
@@ -120,52 +111,43 @@ fn cipher<U: Unit + Drop>(
     tally: &mut Tally,
     unit: U,
     program: &[u8],
-    value: Published<'_>,
+    value: &Published<'_>,
     seal: Seal,
 ) -> Result<(), Failure> {
     let heap = rt.alloc();
     let mut bytes = vec![in heap; 0u8; 1024]?;
     let mut marks = vec![in heap; 0u8; 1024]?;
-    let memory = bytes.as_mut_slice();
-    let mut at = 0usize;
-    for byte in value.text {
-        if at < memory.len() {
-            memory[at] = *byte;
-            at += 1;
-        }
+    for (cell, byte) in bytes.iter_mut().zip(value.text) {
+        *cell = *byte;
     }
-    let store = match Store::new(bytes.as_mut_slice(), marks.as_mut_slice()) {
-        Ok(store) => store,
-        Err(_) => return Err(Failure::NoMemory),
+    let Ok(store) = Store::new(bytes.as_mut_slice(), marks.as_mut_slice()) else {
+        unreachable!()
     };
     let mut terminal = Terminal::new(heap, store, unit);
-    let none: Vec<Interval> = Vec::new(heap);
-    let answers = terminal.perform(
-        heap,
-        beginning(heap, none.as_slice(), program, value, seal)?,
-    )?;
+    let answers = terminal.perform(heap, beginning(heap, program, value, seal)?)?;
     let mut open = intervals(heap, answers)?;
-    let answers = terminal.perform(heap, running(heap, open.as_slice(), value.key)?)?;
-    let ran = sort_out(heap, answers.as_slice())?;
-    let Some(text) = open.pop() else {
-        return Err(Failure::NoMemory);
+    let (Some(text), Some(key)) = (open.pop(), open.pop()) else {
+        return Err(Failure::Unopened);
     };
-    let answers = terminal.perform(
-        heap,
-        showing(heap, open.as_slice(), text, value.expected.len())?,
-    )?;
+    let answers = terminal.perform(heap, running(heap, &key, value.key)?)?;
+    let ran = sort_out(heap, answers.as_slice())?;
+    let answers = terminal.perform(heap, showing(heap, text, value.expected.len())?)?;
     let shown = sort_out(heap, answers.as_slice())?;
     let name = value.name;
-    let steps = ran.steps;
-    let cycles = ran.cycles;
+    let Told {
+        steps,
+        cycles,
+        refused,
+        ..
+    } = ran;
     let right = shown.shown.as_slice() == value.expected;
     match seal {
         Seal::Practice => {
-            let said = tally.count(right && ran.refused == 0);
+            let said = tally.count(right && refused == 0);
             println!(rt; "{name}: {steps} steps, {cycles} cycles {said}")?;
         }
         Seal::Sealed => {
-            let said = tally.count(right && ran.refused == 1);
+            let said = tally.count(right && refused == 1);
             println!(rt;
                 "{name}, sealed key: {steps} steps, {cycles} cycles, held until the close {said}"
             )?;
@@ -174,58 +156,26 @@ fn cipher<U: Unit + Drop>(
     Ok(())
 }
 
-// The program in a file.
-fn program(rt: &HostRuntime, file: &str) -> Result<Vec<u8>, Failure> {
-    let text = fs::read(rt, file)?;
+// Runs the program in a value's file, with an open key and with a sealed one.
+fn both_seals<U: Unit + Copy + Drop>(
+    rt: &HostRuntime,
+    tally: &mut Tally,
+    unit: U,
+    value: &Published<'_>,
+) -> Result<(), Failure> {
+    let text = fs::read(rt, value.file)?;
     let program = read_hex(rt.alloc(), text.as_slice())?;
-    Ok(program)
+    for seal in [Seal::Practice, Seal::Sealed] {
+        cipher(rt, tally, unit, program.as_slice(), value, seal)?;
+    }
+    Ok(())
 }
 
-// A value of the AES standard, with an open key and with a sealed one.
-fn aes(
-    rt: &HostRuntime,
-    tally: &mut Tally,
-    file: &str,
-    value: Published<'_>,
-) -> Result<(), Failure> {
-    let code = program(rt, file)?;
-    cipher(
-        rt,
-        tally,
-        Aes::new(),
-        code.as_slice(),
-        value,
-        Seal::Practice,
-    )?;
-    cipher(rt, tally, Aes::new(), code.as_slice(), value, Seal::Sealed)
-}
-
-// A value published with CHAM, its words lowest byte first, with an open key and with a sealed one.
-fn cham(
-    rt: &HostRuntime,
-    tally: &mut Tally,
-    file: &str,
-    value: Published<'_>,
-) -> Result<(), Failure> {
-    let code = program(rt, file)?;
-    cipher(
-        rt,
-        tally,
-        Cham::new(),
-        code.as_slice(),
-        value,
-        Seal::Practice,
-    )?;
-    cipher(rt, tally, Cham::new(), code.as_slice(), value, Seal::Sealed)
-}
-
-// All published values of both ciphers.
-pub fn all_ciphers(rt: &HostRuntime, tally: &mut Tally) -> Result<(), Failure> {
-    aes(
-        rt,
-        tally,
-        "aes_encrypt.hex",
+// The values of the AES standard.
+fn aes_values() -> [Published<'static>; 4] {
+    [
         Published {
+            file: "aes_encrypt.hex",
             name: "AES-128 encryption, worked example",
             text: &[
                 0x32, 0x43, 0xF6, 0xA8, 0x88, 0x5A, 0x30, 0x8D, 0x31, 0x31, 0x98, 0xA2, 0xE0, 0x37,
@@ -241,12 +191,8 @@ pub fn all_ciphers(rt: &HostRuntime, tally: &mut Tally) -> Result<(), Failure> {
                 0x0B, 0x32,
             ],
         },
-    )?;
-    aes(
-        rt,
-        tally,
-        "aes_encrypt.hex",
         Published {
+            file: "aes_encrypt.hex",
             name: "AES-128 encryption, example vector",
             text: &[
                 0x00, 0x11, 0x22, 0x33, 0x44, 0x55, 0x66, 0x77, 0x88, 0x99, 0xAA, 0xBB, 0xCC, 0xDD,
@@ -262,12 +208,8 @@ pub fn all_ciphers(rt: &HostRuntime, tally: &mut Tally) -> Result<(), Failure> {
                 0xC5, 0x5A,
             ],
         },
-    )?;
-    aes(
-        rt,
-        tally,
-        "aes_decrypt.hex",
         Published {
+            file: "aes_decrypt.hex",
             name: "AES-128 decryption, worked example",
             text: &[
                 0x39, 0x25, 0x84, 0x1D, 0x02, 0xDC, 0x09, 0xFB, 0xDC, 0x11, 0x85, 0x97, 0x19, 0x6A,
@@ -283,12 +225,8 @@ pub fn all_ciphers(rt: &HostRuntime, tally: &mut Tally) -> Result<(), Failure> {
                 0x07, 0x34,
             ],
         },
-    )?;
-    aes(
-        rt,
-        tally,
-        "aes_decrypt.hex",
         Published {
+            file: "aes_decrypt.hex",
             name: "AES-128 decryption, example vector",
             text: &[
                 0x69, 0xC4, 0xE0, 0xD8, 0x6A, 0x7B, 0x04, 0x30, 0xD8, 0xCD, 0xB7, 0x80, 0x70, 0xB4,
@@ -304,12 +242,14 @@ pub fn all_ciphers(rt: &HostRuntime, tally: &mut Tally) -> Result<(), Failure> {
                 0xEE, 0xFF,
             ],
         },
-    )?;
-    cham(
-        rt,
-        tally,
-        "cham128.hex",
+    ]
+}
+
+// The values published with CHAM, their words lowest byte first.
+fn cham_values() -> [Published<'static>; 2] {
+    [
         Published {
+            file: "cham128.hex",
             name: "CHAM-128/128",
             text: &[
                 0x00, 0x11, 0x22, 0x33, 0x44, 0x55, 0x66, 0x77, 0x88, 0x99, 0xAA, 0xBB, 0xCC, 0xDD,
@@ -325,12 +265,8 @@ pub fn all_ciphers(rt: &HostRuntime, tally: &mut Tally) -> Result<(), Failure> {
                 0x93, 0x48,
             ],
         },
-    )?;
-    cham(
-        rt,
-        tally,
-        "cham64.hex",
         Published {
+            file: "cham64.hex",
             name: "CHAM-64/128",
             text: &[0x00, 0x11, 0x22, 0x33, 0x44, 0x55, 0x66, 0x77],
             key_at: 0x0020,
@@ -340,6 +276,16 @@ pub fn all_ciphers(rt: &HostRuntime, tally: &mut Tally) -> Result<(), Failure> {
             ],
             expected: &[0x3C, 0x45, 0xBC, 0x63, 0xFA, 0xDC, 0x4E, 0xBF],
         },
-    )?;
+    ]
+}
+
+// All published values of both ciphers.
+pub fn all_ciphers(rt: &HostRuntime, tally: &mut Tally) -> Result<(), Failure> {
+    for value in aes_values() {
+        both_seals(rt, tally, Aes::new(), &value)?;
+    }
+    for value in cham_values() {
+        both_seals(rt, tally, Cham::new(), &value)?;
+    }
     Ok(())
 }

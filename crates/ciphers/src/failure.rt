@@ -7,6 +7,8 @@ use std::{fmt, io};
 pub enum Failure {
     Io(io::Error),
     Program(Fault),
+    // an interval over a key or a text was refused
+    Unopened,
     NoMemory,
 }
 
@@ -15,6 +17,7 @@ impl fmt::Display for Failure {
         match self {
             Failure::Io(error) => write!(f, "ciphers: {error}"),
             Failure::Program(_) => write!(f, "ciphers: a program that is no hex text"),
+            Failure::Unopened => write!(f, "ciphers: an interval that was not opened"),
             Failure::NoMemory => write!(f, "ciphers: out of memory"),
         }
     }

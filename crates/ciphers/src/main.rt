@@ -12,11 +12,9 @@ use tally::Tally;
 
 // All of them, and the count.
 fn run(rt: &HostRuntime) -> Result<(), Failure> {
-    let mut tally = Tally { right: 0, wrong: 0 };
+    let mut tally = Tally::default();
     all_ciphers(rt, &mut tally)?;
-    let right = tally.right;
-    let wrong = tally.wrong;
-    println!(rt; "{right} right, {wrong} wrong")?;
+    println!(rt; "{tally}")?;
     Ok(())
 }
 

@@ -1,10 +1,12 @@
 // How many values came out as published, and how many did not.
 #![tactic(auto)]
 
-ghost use Rattle.std.specs.Prelude.{◌≡◌, codes, if◌then◌else◌};
-ghost use Rattle.tally.specs.Counts.{counted};
+ghost use Rattle.std.specs.Prelude.{◌≡◌, codes, if◌then◌else◌, Some};
+ghost use Rattle.tally.specs.Counts.{counted, tally_text};
 
-#[derive(Clone, Copy)]
+use std::fmt;
+
+#[derive(Clone, Copy, Default)]
 pub struct Tally {
     pub right: u32,
     pub wrong: u32,
@@ -23,5 +25,14 @@ impl Tally {
             self.wrong = self.wrong.saturating_add(1);
             "WRONG"
         }
+    }
+}
+
+impl fmt::Display for Tally {
+    ghost output = { λ t. Some (tally_text t) };
+
+    fn fmt<W: fmt::Write>(&self, f: &mut fmt::Formatter<W>) -> fmt::Result {
+        let Tally { right, wrong } = *self;
+        write!(f, "{right} right, {wrong} wrong")
     }
 }

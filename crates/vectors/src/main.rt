@@ -107,11 +107,9 @@ fn rotations(rt: &HostRuntime, tally: &mut Tally) -> io::Result<()> {
 }
 
 fn main(rt: HostRuntime) -> io::Result<()> {
-    let mut tally = Tally { right: 0, wrong: 0 };
+    let mut tally = Tally::default();
     boxes(&rt, &mut tally)?;
     columns(&rt, &mut tally)?;
     rotations(&rt, &mut tally)?;
-    let right = tally.right;
-    let wrong = tally.wrong;
-    println!(rt; "{right} right, {wrong} wrong")
+    println!(rt; "{tally}")
 }
