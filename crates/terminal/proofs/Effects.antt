@@ -19,10 +19,11 @@ use Rattle.buses.specs.Cells as bus
 use Rattle.units.specs.declared.unit.Reply.{Reply}
 use Rattle.units.specs.Laws.{ContentsBy, OperandsBy, FlagsBy, OutcomeBy}
 use Rattle.units.specs.Meaning.{Contents, Operands, operands}
+use Rattle.units.specs.Registers.{status_of}
 use Rattle.cpu.specs.declared.state.Core.{Core}
 use Rattle.cpu.specs.declared.state.Mode.TheVariants.{Waiting, Ended}
 use Rattle.cpu.specs.Faults.{Stop, Layer, stop, of_core, of_bus, of_unit, from, and_then}
-use Rattle.cpu.specs.Instructions.{Service, marked, above, below, has_flag, summed, combined, operated, steered, number_in, read_from, written_to, loaded, stored, stepped, status_byte, status_of, pushed, top, risen, popped, status_popped, branched, called, returned, enabled_read, enabled_set, pairs_copied, resumed, clears_line, line_cleared, ordered, flagged, replied}
+use Rattle.cpu.specs.Instructions.{Service, marked, above, below, has_flag, summed, combined, operated, steered, number_in, read_from, written_to, loaded, stored, stepped, status_byte, pushed, top, risen, popped, status_popped, branched, called, returned, enabled_read, enabled_set, pairs_copied, resumed, clears_line, line_cleared, ordered, flagged, replied}
 use Rattle.cpu.specs.State.{State, register, with_register, with_registers, with_status, with_pc, with_sp, with_enabled, with_handling, with_mode}
 use Rattle.cpu.specs.Steps.{Effect, over, leaves, on_core, or_core, or_both, effect}
 use Rattle.terminal.specs.Relations.{StatusBy, CoreBy, CellBy, CellsBy, StateBy}
