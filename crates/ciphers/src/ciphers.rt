@@ -106,6 +106,7 @@ fn showing<'i>(heap: Global, text: Interval, length: usize) -> Result<Vec<Call<'
 }
 
 // Runs a program over a value's text and key, and prints what came of it.
+// `rt` and `tally` stay two parameters: a struct of both would be built once and taken apart at each line printed.
 fn cipher<U: Unit + Drop>(
     rt: &HostRuntime,
     tally: &mut Tally,

@@ -1,4 +1,5 @@
-// Why a vector could not be run.
+// Why a vector could not be run. Only Io and NoMemory are the player's too: one type for both would need a parameter
+// for the other causes and one for the program's name, and would be no plainer.
 use listing::hex::Fault;
 use std::alloc::{AllocError, AllocFailed};
 use std::{fmt, io};

@@ -15,10 +15,10 @@ fn answered<U: Unit>(unit: &mut U, code: u8, a: u8, b: u8) -> Option<(u8, u8)> {
         high: none,
         low: none,
     };
-    match unit.operate(code, Marked::unheld(a), Marked::unheld(b), status) {
-        Ok(reply) => Some((reply.result.byte, reply.wait)),
-        Err(_) => None,
-    }
+    let reply = unit
+        .operate(code, Marked::unheld(a), Marked::unheld(b), status)
+        .ok()?;
+    Some((reply.result.byte, reply.wait))
 }
 
 // The five calls of amc or aic on one column.
@@ -44,6 +44,7 @@ fn turned<U: Unit>(unit: &mut U, n: u32, amount: u8) -> Option<u32> {
 }
 
 // The S-box and its inverse: bytes of the first round of the AES standard's worked example, and of its text.
+// `rt` and `tally` stay two parameters: a struct of both would be built once and taken apart at each line printed.
 fn boxes(rt: &HostRuntime, tally: &mut Tally) -> io::Result<()> {
     let table = [
         (0x00, 0x63),
