@@ -7,7 +7,7 @@ use std::alloc::Global;
 use std::fs;
 use tally::Tally;
 use terminal::Terminal;
-use terminal::calls::{Answer, Call};
+use terminal::calls::{Answer, Call, Unmade};
 use terminal::interval::{Interval, Seal};
 use units::aes::Aes;
 use units::cham::Cham;
@@ -34,10 +34,10 @@ struct Told {
 }
 
 // The intervals that were opened.
-fn intervals(heap: Global, answers: Vec<Answer>) -> Result<Vec<Interval>, Failure> {
+fn intervals(heap: Global, answers: Vec<Result<Answer, Unmade>>) -> Result<Vec<Interval>, Failure> {
     let mut open = Vec::new(heap);
     for answer in answers {
-        if let Answer::Opened(interval) = answer {
+        if let Ok(Answer::Opened(interval)) = answer {
             open.push(interval)?;
         }
     }
@@ -45,7 +45,7 @@ fn intervals(heap: Global, answers: Vec<Answer>) -> Result<Vec<Interval>, Failur
 }
 
 // Steps and cycles, refusals, and the bytes that were shown.
-fn sort_out(heap: Global, answers: &[Answer]) -> Result<Told, Failure> {
+fn sort_out(heap: Global, answers: &[Result<Answer, Unmade>]) -> Result<Told, Failure> {
     let mut told = Told {
         steps: 0,
         cycles: 0,
@@ -54,12 +54,12 @@ fn sort_out(heap: Global, answers: &[Answer]) -> Result<Told, Failure> {
     };
     for answer in answers {
         match answer {
-            Answer::Ran(run) => {
+            Ok(Answer::Ran(run)) => {
                 told.steps = run.steps;
                 told.cycles = run.cycles;
             }
-            Answer::Byte(byte) => told.shown.push(*byte)?,
-            Answer::Refused(_) => told.refused = told.refused.saturating_add(1),
+            Ok(Answer::Byte(byte)) => told.shown.push(*byte)?,
+            Err(Unmade::Refused(_)) => told.refused = told.refused.saturating_add(1),
             _ => {}
         }
     }

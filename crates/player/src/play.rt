@@ -15,7 +15,7 @@ use std::alloc::{AllocError, Global};
 use std::collections::BTreeMap;
 use std::io::Write;
 use terminal::Terminal;
-use terminal::calls::{Answer, Call};
+use terminal::calls::{Answer, Call, Unmade};
 use terminal::interval::Seal;
 use units::aes::Aes;
 use units::cham::Cham;
@@ -77,14 +77,14 @@ fn single<B: Bus, U: Unit>(
     heap: Global,
     terminal: &mut Terminal<B, U>,
     call: Call<'_>,
-) -> Result<Option<Answer>, AllocError> {
+) -> Result<Option<Result<Answer, Unmade>>, AllocError> {
     let mut answers = terminal.perform(heap, vec![in heap; call]?)?;
     Ok(answers.pop())
 }
 
 impl<'r, B: Bus, U: Unit> Player<'r, B, U> {
     // Counts an answer and writes it.
-    fn tell(&mut self, label: &[u8], answer: &Answer) -> Result<(), Failure> {
+    fn tell(&mut self, label: &[u8], answer: &Result<Answer, Unmade>) -> Result<(), Failure> {
         self.totals.count(answer);
         let text = answer_line(self.rt.alloc(), label, answer)?;
         say(self.rt, text.as_slice())
@@ -108,7 +108,7 @@ impl<'r, B: Bus, U: Unit> Player<'r, B, U> {
             return Ok(());
         };
         self.tell(label, &answer)?;
-        if let Answer::Opened(interval) = answer {
+        if let Ok(Answer::Opened(interval)) = answer {
             self.open.insert(name, interval)?;
         }
         Ok(())
@@ -124,7 +124,7 @@ impl<'r, B: Bus, U: Unit> Player<'r, B, U> {
             return Ok(());
         };
         self.tell(label, &answer)?;
-        if let Answer::Unclosed(unclosed) = answer {
+        if let Err(Unmade::Unclosed(unclosed)) = answer {
             self.open.insert(name, unclosed.interval)?;
         }
         Ok(())

@@ -3,7 +3,7 @@ ghost use Rattle.std.specs.Prelude.{◌≡◌, Some};
 ghost use Rattle.player.specs.Totals.{counted, totals_text};
 
 use std::fmt;
-use terminal::calls::Answer;
+use terminal::calls::{Answer, Unmade};
 
 #[derive(Clone, Copy, Default)]
 pub struct Totals {
@@ -15,15 +15,13 @@ pub struct Totals {
 
 impl Totals {
     // One call more.
-    pub fn count(&mut self, answer: &Answer)
+    pub fn count(&mut self, answer: &Result<Answer, Unmade>)
         ensures { self.new ≡ counted self.old answer.now }
     {
         self.calls = self.calls.saturating_add(1);
         match answer {
-            Answer::Refused(_) | Answer::Unclosed(_) => {
-                self.refused = self.refused.saturating_add(1);
-            }
-            Answer::Ran(run) => {
+            Err(_) => self.refused = self.refused.saturating_add(1),
+            Ok(Answer::Ran(run)) => {
                 self.steps = self.steps.saturating_add(run.steps as u64);
                 self.cycles = self.cycles.saturating_add(run.cycles);
             }
