@@ -72,7 +72,7 @@ fn call_of<'i>(
     })
 }
 
-// Makes one call.
+// Makes one call, as a list of one: the theorems of a terminal stand on `perform`.
 fn single<B: Bus, U: Unit>(
     heap: Global,
     terminal: &mut Terminal<B, U>,
@@ -202,6 +202,7 @@ pub fn play(rt: &HostRuntime, text: &[u8]) -> Result<(), Failure> {
     memories.fill(heap, lines.as_slice())?;
     let store = match Store::new(memories.bytes.as_mut_slice(), memories.marks.as_mut_slice()) {
         Ok(store) => store,
+        // not reached, as both memories have the same cells, 65536 at most; that is not proved here
         Err(_) => return Err(Failure::NoMemory),
     };
     match page {
