@@ -21,16 +21,6 @@ fn writable<B: Bus>(bus: &B, address: u16) -> Result<(), Cause>
     }
 }
 
-// A byte of a return address, if it is not held.
-fn shown(value: Marked) -> Result<u8, Cause>
-    ensures { or_stop result ≡ steered 35 value }
-{
-    if value.mark.is_held() {
-        return Err(Cause::HeldReturn);
-    }
-    Ok(value.byte)
-}
-
 impl Core {
     // A held flag stops the branch, whether or not it would be taken.
     pub(crate) fn branch(&mut self, flag: Flag, target: u16) -> Result<(), Cause>
@@ -66,8 +56,8 @@ impl Core {
     {
         let first = self.sp.wrapping_add(1);
         let second = first.wrapping_add(1);
-        let low = shown(read(bus, first)?)?;
-        let high = shown(read(bus, second)?)?;
+        let low = read(bus, first)?.shown().ok_or(Cause::HeldReturn)?;
+        let high = read(bus, second)?.shown().ok_or(Cause::HeldReturn)?;
         self.sp = second;
         self.pc = high as u16 % 16 * 256 + low as u16;
         Ok(())

@@ -11,7 +11,7 @@ use buses::bus::Bus;
 use marks::Marked;
 
 impl Core {
-    // The status register as a byte, with the joined mark of its groups.
+    // The status register as a byte, with the joined mark of its groups: a question to the core, and so no From.
     pub fn status_byte(&self) -> Marked
         ensures { result ≡ status_byte self.now.status }
     {

@@ -20,7 +20,7 @@ fn input(rt: &HostRuntime) -> Result<Vec<u8>, Failure> {
     Ok(bytes)
 }
 
-// The bytes of a file.
+// The bytes of a file. A match, since try_map_err would want the type of its closure's failure written out.
 fn file(rt: &HostRuntime, path: &str) -> Result<Vec<u8>, Failure> {
     match fs::read(rt, path) {
         Ok(bytes) => Ok(bytes),

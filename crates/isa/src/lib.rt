@@ -94,6 +94,7 @@ pub enum Refusal {
 }
 
 // What the word that begins with these bytes says; `second` counts only where the word has two bytes.
+// One match over byte ranges with guards, as the project has it for the decoder: it reads as the table does.
 pub fn decode(first: Option<u8>, second: Option<u8>) -> Result<Instruction, Refusal>
     ensures told { numbered result ≡ decoded first second }
     ensures written_back { WritesBack first second (numbered result) }

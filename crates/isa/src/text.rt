@@ -56,7 +56,8 @@ impl fmt::Display for Alu {
     }
 }
 
-// An operation of the extension unit: by its mnemonic if it has one, else by its code.
+// An operation of the extension unit: by its mnemonic if it has one, else by its code, which is a number since each
+// unit reads that field of the word in its own way.
 #[derive(Drop)]
 struct UnitOperation {
     code: u8,

@@ -1,5 +1,5 @@
 -- Marks and marked bytes. Assumes nothing.
-use Rattle.std.specs.Prelude.{◌≡◌, Bool, true, false, cond, ◌||◌, ◌==◌, ℕ}
+use Rattle.std.specs.Prelude.{◌≡◌, Bool, true, false, cond, ◌||◌, ◌==◌, ℕ, Option, Some, None}
 use Rattle.marks.specs.declared.Mark.{Mark}
 use Rattle.marks.specs.declared.Mark.TheVariants.{Held, Unheld}
 use Rattle.marks.specs.declared.Marked.{Marked}
@@ -21,6 +21,10 @@ mark_of n = cond (n == 0) Unheld Held
 abbrev pub mark_byte : Mark → ℕ
 mark_byte Unheld = 0
 mark_byte Held = 1
+
+-- the byte, where it may be shown
+abbrev pub shown : Marked → Option ℕ
+shown m = cond (held m.mark) None (Some m.byte)
 
 abbrev pub unheld : ℕ → Marked
 unheld b = record { byte = b; mark = Unheld }

@@ -2,7 +2,7 @@
 #![tactic(auto)]
 
 ghost use Rattle.std.specs.Prelude.{◌≡◌};
-ghost use Rattle.marks.specs.Marks.{held, join, mark_of, mark_byte, unheld, lifted, JoinLaws};
+ghost use Rattle.marks.specs.Marks.{held, join, mark_of, mark_byte, shown, unheld, lifted, JoinLaws};
 
 // Whether a byte may be shown.
 #[derive(Clone, Copy, Debug, PartialEq, Eq)]
@@ -66,6 +66,16 @@ impl Marked {
         Marked {
             byte,
             mark: Mark::Unheld,
+        }
+    }
+
+    // The byte, if it may be shown.
+    pub fn shown(self) -> Option<u8>
+        ensures { result ≡ shown self }
+    {
+        match self.mark {
+            Mark::Unheld => Some(self.byte),
+            Mark::Held => None,
         }
     }
 

@@ -43,7 +43,7 @@ pub(crate) fn wrong(heap: Global, number: usize, what: &str) -> Failure
     format!(in heap; "line {number}: {what}").map_or_else(Failure::from, Failure::Line)
 }
 
-// A line that cannot be read.
+// A line that cannot be read, by the text that scripts have for its fault.
 fn unread(heap: Global, number: usize, fault: Fault) -> Failure
     ensures { Tells result number (fault_name fault) }
 {
@@ -66,7 +66,7 @@ impl Reading {
         Ok(())
     }
 
-    // Reads the next line.
+    // Reads the next line. The number is counted here and not by enumerate, as it is a part of what was read so far.
     fn take(&mut self, heap: Global, text: &[u8]) -> Result<(), Failure>
         requires { self.old.number + 1 < 2 ^ 64 }
         ensures number { self.new.number ≡ self.old.number + 1 }

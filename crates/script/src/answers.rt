@@ -18,7 +18,7 @@ pub fn refusal_number(refusal: Refusal) -> u8
     refusal as u8
 }
 
-// How a run ended, to be written.
+// How a run ended, to be written. What follows is one format! each: a Display for a borrowed answer would be no plainer.
 #[derive(Clone, Copy)]
 struct EndingShown(Ending);
 

@@ -7,7 +7,7 @@ use super::text::{HexPlace, HexWord};
 use cpu::faults::{Cause, Fault};
 use std::fmt;
 
-// The number of a cause.
+// The number of a cause: a match, since a cause carries what was refused and so has no number of its own.
 pub(crate) fn cause_number(cause: Cause) -> u8
     ensures { result ≡ (stop_of cause).number }
 {

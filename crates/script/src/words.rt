@@ -2,6 +2,7 @@
 ghost use Rattle.std.specs.Prelude.{◌≡◌, ◌≤◌, length};
 ghost use Rattle.script.specs.Words.{is_blank, ends_word, blank_count, word_length, first_word, after_word, word_at};
 
+// The same test as for programs in hex: a crate for one line of code would be no plainer.
 fn is_blank(b: u8) -> bool
     ensures { result ≡ is_blank b }
 {

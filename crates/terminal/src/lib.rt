@@ -5,8 +5,6 @@ ghost use Rattle.std.specs.Prelude.{◌≡◌, map, is_ok, IfOk, if◌then◌els
 ghost use Rattle.std.specs.Vec as vectors;
 ghost use Rattle.cpu.specs.Machines.{service};
 ghost use Rattle.terminal.specs.Calls.{load, start, raise, run, put, opening, entry, close, cell, register, status};
-ghost use Rattle.terminal.specs.Numbers.{numbered};
-ghost use Rattle.terminal.specs.Terminals.{shown};
 ghost use Rattle.terminal.specs.Theorems.{Noninterference, Transparency};
 ghost use Rattle.terminal.specs.Responses.{Responds, made, terminal_of, performed_of, done_of, byte_of, opened_of, closed_of, ran_of, stands_of, answer_of, call_of};
 
@@ -21,16 +19,6 @@ use interval::{Interval, Seal};
 use marks::Marked;
 use std::alloc::{AllocError, Global};
 use units::unit::Unit;
-
-// A byte that may be shown.
-fn shown(value: Marked) -> Result<u8, Refusal>
-    ensures { numbered result ≡ shown value }
-{
-    if value.mark.is_held() {
-        return Err(Refusal::HeldByte);
-    }
-    Ok(value.byte)
-}
 
 // What it contains is told by terminal_of: an impl Model could not, since the cells of a bus are a function, which has no code.
 #[derive(Drop)]
@@ -161,22 +149,24 @@ impl<B: Bus, U: Unit> Terminal<B, U> {
     pub fn cell(&self, address: u16) -> Result<u8, Refusal>
         ensures { Responds B.Bus U.Unit self.now self.now (cell address) (byte_of result) }
     {
-        self.machine
+        let value = self
+            .machine
             .bus
             .read(address)
-            .map_err(|_| Refusal::AbsentCell)
-            .and_then(shown)
+            .map_err(|_| Refusal::AbsentCell)?;
+        value.shown().ok_or(Refusal::HeldByte)
     }
 
-    // The byte of a register, if it is not held; 16 is the status register.
+    // The byte of a register, if it is not held. The rules ask for registers by number: 16 is the status register.
     pub fn register(&self, number: u8) -> Result<u8, Refusal>
         ensures { Responds B.Bus U.Unit self.now self.now (register number) (byte_of result) }
     {
-        match number {
-            0..=15 => shown(self.machine.core.register(number)),
-            16 => shown(self.machine.core.status_byte()),
-            _ => Err(Refusal::RegisterRange),
-        }
+        let asked = match number {
+            0..=15 => self.machine.core.register(number),
+            16 => self.machine.core.status_byte(),
+            _ => return Err(Refusal::RegisterRange),
+        };
+        asked.shown().ok_or(Refusal::HeldByte)
     }
 
     // Where the terminal stands.
