@@ -1,6 +1,5 @@
 use Rattle.std.proofs.Common.{◌≡◌, ◌<◌, length, set, ◌∙◌, rules}
 use Rattle.buses.specs.Memories.{store_cells}
-use Rattle.buses.proofs.Alone.{write_laws}
 use Rattle.buses.proofs.Stores.{written, takes}
 use Rattle.buses.proofs.store.StoreBus.write.Goals as goal
 
@@ -14,6 +13,3 @@ returns-clause-cells c =
     let k : a < length marks = search rules in
     let same : c.in_ok-at.at ≡ a = search rules in
     (λ i. store_cells (set bytes (same i) value.byte) (set marks (same i) (c.into.ensures i))) ∙ written bytes marks a value.byte value.mark h k ∙ takes bytes marks a value h k
-
-pub returns-clause-laws : goal.returns-clause-laws
-returns-clause-laws c = write_laws
