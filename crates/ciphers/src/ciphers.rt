@@ -105,8 +105,7 @@ fn showing<'i>(heap: Global, text: Interval, length: usize) -> Result<Vec<Call<'
     Ok(calls)
 }
 
-// Runs a program over a value's text and key, and prints what came of it.
-// `rt` and `tally` stay two parameters: a struct of both would be built once and taken apart at each line printed.
+// Runs a program over a value's text and key, and prints it; a struct of rt and tally would be taken apart at each line.
 fn cipher<U: Unit + Drop>(
     rt: &HostRuntime,
     tally: &mut Tally,
@@ -116,6 +115,7 @@ fn cipher<U: Unit + Drop>(
     seal: Seal,
 ) -> Result<(), Failure> {
     let heap = rt.alloc();
+    // two memories, since a store is made over two
     let mut bytes = vec![in heap; 0u8; 1024]?;
     let mut marks = vec![in heap; 0u8; 1024]?;
     for (cell, byte) in bytes.iter_mut().zip(value.text) {

@@ -1,5 +1,4 @@
-// Why a vector could not be run. Only Io and NoMemory are the player's too: one type for both would need a parameter
-// for the other causes and one for the program's name, and would be no plainer.
+// Why a vector could not be run: one type with the player's would need its other causes and its name as parameters.
 use listing::hex::Fault;
 use std::alloc::{AllocError, AllocFailed};
 use std::{fmt, io};

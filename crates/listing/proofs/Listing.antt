@@ -3,19 +3,11 @@ use Rattle.std.proofs.Common.{◌≡◌, ℕ, ◌+◌, ◌-◌, ◌<◌, ◌≤�
 use Rattle.std.proofs.lemmas.List.{take_more, take_all, length-drop}
 use Rattle.isa.specs.declared.Instruction.{Instruction}
 use Rattle.isa.specs.declared.Refusal.{Refusal}
-use Rattle.isa.specs.declared.Refusal.TheVariants.{OperandOutOfField, MissingByte, ReservedWord}
 use Rattle.isa.specs.declared.Word.{Word}
 use Rattle.isa.specs.declared.Word.TheVariants.{One, Two}
 use Rattle.isa.specs.Table.{length_of}
-use Rattle.listing.specs.declared.lines.Counts.{Counts}
 use Rattle.listing.specs.declared.lines.Line.{Line}
-use Rattle.listing.specs.Lines.{Below, counted_to, line_of, lines_of, size_of, word_at, word_bytes, bytes_of, line_text, lines_text}
-
-pub below_more : (r : Result Instruction Refusal) (c : Counts) (n : ℕ) → Below c n → Below (counted_to r c) (n + 1)
-below_more (Ok x) c n h = (omega arith, omega arith, omega arith)
-below_more (Err ReservedWord) c n h = (omega arith, omega arith, omega arith)
-below_more (Err MissingByte) c n h = (omega arith, omega arith, omega arith)
-below_more (Err OperandOutOfField) c n h = (omega arith, omega arith, omega arith)
+use Rattle.listing.specs.Lines.{line_of, lines_of, size_of, word_at, word_bytes, bytes_of, line_text, lines_text}
 
 -- what follows a line is listed from its end on
 after_line : (at a b : ℕ) (rest : List ℕ) (w : Word) → cond (eqb (size_of w) 2) (lines_of (at + 2) rest) (lines_of (at + 1) (b ∷ rest)) ≡ lines_of (at + size_of w) (drop (size_of w) (a ∷ b ∷ rest))

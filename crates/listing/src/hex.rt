@@ -49,6 +49,7 @@ fn digit_value(b: u8) -> Option<u8>
     char::from(b).to_digit(16).map(|value| value as u8)
 }
 
+// The same test stands for words of scripts: a crate for one line of code would be no plainer.
 fn is_blank(b: u8) -> bool
     ensures { result ≡ is_blank b }
 {

@@ -1,6 +1,5 @@
 -- The lines of a script in turn. Assumes nothing.
-use Rattle.std.proofs.Common.{◌≡◌, ℕ, ◌+◌, ◌<◌, List, ◌∷◌, length, drop, get_or, Err, Result, sym, ap, ◌∙◌}
-use Rattle.std.proofs.lemmas.List.{at_drop_more}
+use Rattle.std.proofs.Common.{ℕ, List, Err, Result, sym, ap}
 use Rattle.player.specs.declared.failure.Failure.{Failure}
 use Rattle.player.specs.declared.failure.Failure.TheVariants.{Line, Told, Io, NoMemory}
 use Rattle.player.specs.Answers.{Fails, Tells, then, wrong_text}
@@ -17,7 +16,3 @@ tells A (Line text) n what h = ap (λ t. Err t) (sym h)
 tells A NoMemory n what h = tt
 tells A (Told text) n what h = h
 tells A (Io error) n what h = h
-
--- the item at an index stands in front of what is left there
-pub in_front : {A B : Type 0} (f : List A → B) (xs : List A) (i : ℕ) (x : A) → i < length xs → x ≡ get_or xs i x → f (drop i xs) ≡ f (x ∷ drop (i + 1) xs)
-in_front f xs i x h is = at_drop_more f xs i x h ∙ ap (λ y. f (y ∷ drop (i + 1) xs)) (sym is)

@@ -1,5 +1,5 @@
 -- What a function that reads a script answers. Assumes nothing.
-use Rattle.std.specs.Prelude.{◌≡◌, ℕ, List, ◌++◌, codes, decimal, string_bytes, Ok, Err, Result}
+use Rattle.std.specs.Prelude.{◌≡◌, ℕ, List, ◌++◌, codes, decimal, string_bytes, Ok, Err, Result, MatchResult}
 use Rattle.script.specs.Lines.{Said, said_of}
 use Rattle.player.specs.declared.failure.Failure.{Failure}
 use Rattle.player.specs.declared.failure.Failure.TheVariants.{Line, Told, Io, NoMemory}
@@ -15,6 +15,10 @@ Fails (Line text) said = said ≡ Err (string_bytes text)
 Fails NoMemory said = Unit {0}
 Fails (Told text) said = ⊥
 Fails (Io error) said = ⊥
+
+-- what is defined, by what the answer stands for, or a failure
+abbrev pub Gives : {A B : Type 0} → (A → B) → Result A Failure → Result B (List ℕ) → Type 0
+Gives f answer said = MatchResult answer (λ x. said ≡ Ok (f x)) (λ e. Fails e said)
 
 -- a failure that tells of the line of a number, where memory sufficed
 abbrev pub Tells : Failure → ℕ → List ℕ → Type 0

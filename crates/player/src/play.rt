@@ -64,22 +64,24 @@ fn call_of<'i>(
         Line::Cell(address) => Some(Call::Cell(*address)),
         Line::Register(number) => Some(Call::Register(*number)),
         Line::Status => Some(Call::Status),
-        Line::Entry(name, offset, byte) => match find(open, name) {
-            Some(interval) => Some(Call::Entry(interval, *offset, *byte)),
-            None => None,
-        },
+        Line::Entry(name, offset, byte) => {
+            find(open, name).map(|interval| Call::Entry(interval, *offset, *byte))
+        }
         _ => None,
     })
 }
 
-// Makes one call, as a list of one: the theorems of a terminal stand on `perform`.
+// Makes one call, as a list of one, which has one answer: the theorems of a terminal stand on `perform`.
 fn single<B: Bus, U: Unit>(
     heap: Global,
     terminal: &mut Terminal<B, U>,
     call: Call<'_>,
-) -> Result<Option<Result<Answer, Unmade>>, AllocError> {
+) -> Result<Result<Answer, Unmade>, AllocError> {
     let mut answers = terminal.perform(heap, vec![in heap; call]?)?;
-    Ok(answers.pop())
+    let Some(answer) = answers.pop() else {
+        unreachable!()
+    };
+    Ok(answer)
 }
 
 impl<'r, B: Bus, U: Unit> Player<'r, B, U> {
@@ -104,9 +106,7 @@ impl<'r, B: Bus, U: Unit> Player<'r, B, U> {
             return pass_over(self.rt, label, b"name taken");
         }
         let name = Vec::from_slice(heap, name)?;
-        let Some(answer) = single(heap, &mut self.terminal, Call::Open(seal, first, count))? else {
-            return Ok(());
-        };
+        let answer = single(heap, &mut self.terminal, Call::Open(seal, first, count))?;
         self.tell(label, &answer)?;
         if let Ok(Answer::Opened(interval)) = answer {
             self.open.insert(name, interval)?;
@@ -120,9 +120,7 @@ impl<'r, B: Bus, U: Unit> Player<'r, B, U> {
         let Some((name, interval)) = self.open.remove_entry(name) else {
             return pass_over(self.rt, label, b"no interval");
         };
-        let Some(answer) = single(heap, &mut self.terminal, Call::Close(interval))? else {
-            return Ok(());
-        };
+        let answer = single(heap, &mut self.terminal, Call::Close(interval))?;
         self.tell(label, &answer)?;
         if let Err(Unmade::Unclosed(unclosed)) = answer {
             self.open.insert(name, unclosed.interval)?;
@@ -136,9 +134,7 @@ impl<'r, B: Bus, U: Unit> Player<'r, B, U> {
         let Some(call) = call_of(heap, line, &self.open)? else {
             return pass_over(self.rt, label, b"no interval");
         };
-        let Some(answer) = single(heap, &mut self.terminal, call)? else {
-            return Ok(());
-        };
+        let answer = single(heap, &mut self.terminal, call)?;
         self.tell(label, &answer)
     }
 

@@ -1,7 +1,7 @@
 // A script is read as a whole before any call is made.
 ghost use Rattle.std.specs.Prelude.{◌≡◌, ◌+◌, ◌<◌, ◌^◌, map, MatchResult, if◌then◌else◌};
 ghost use Rattle.script.specs.Lines.{said_of};
-ghost use Rattle.player.specs.Answers.{Fails, Tells, numbered};
+ghost use Rattle.player.specs.Answers.{Gives, Tells, numbered};
 ghost use Rattle.script.specs.Told.{fault_name};
 ghost use Rattle.player.specs.Scripts.{script_read, sofar, taken, with_line};
 ghost use Rattle.player.specs.Wishes.{asked, usual, wanted_after};
@@ -43,7 +43,7 @@ pub(crate) fn wrong(heap: Global, number: usize, what: &str) -> Failure
     format!(in heap; "line {number}: {what}").map_or_else(Failure::from, Failure::Line)
 }
 
-// A line that cannot be read, by the text that scripts have for its fault.
+// A line that cannot be read: one function of any Display was tried for both, and leaves four goals to its callers.
 fn unread(heap: Global, number: usize, fault: Fault) -> Failure
     ensures { Tells result number (fault_name fault) }
 {
@@ -54,7 +54,7 @@ impl Reading {
     // Adds a line that says something.
     fn add(&mut self, heap: Global, line: Line) -> Result<(), Failure>
         ensures number { self.new.number ≡ self.old.number }
-        ensures added { let said = with_line (sofar self.old) (said_of line) in MatchResult result (λ _. said ≡ Ok (sofar self.new)) (λ e. Fails e said) }
+        ensures added { Gives (λ _. sofar self.new) result (with_line (sofar self.old) (said_of line)) }
     {
         let setting = is_setting(&line);
         if setting && self.calls {
@@ -66,11 +66,11 @@ impl Reading {
         Ok(())
     }
 
-    // Reads the next line. The number is counted here and not by enumerate, as it is a part of what was read so far.
+    // Reads the next line, whose number is a part of what was read so far, as that is defined.
     fn take(&mut self, heap: Global, text: &[u8]) -> Result<(), Failure>
         requires { self.old.number + 1 < 2 ^ 64 }
         ensures number { self.new.number ≡ self.old.number + 1 }
-        ensures read { let said = taken (sofar self.old) text.now in MatchResult result (λ _. said ≡ Ok (sofar self.new)) (λ e. Fails e said) }
+        ensures read { Gives (λ _. sofar self.new) result (taken (sofar self.old) text.now) }
     {
         self.number += 1;
         match read_line(heap, text) {
@@ -84,7 +84,7 @@ impl Reading {
 
 // The lines that say something, or the first that cannot be read.
 pub fn read_script(heap: Global, text: &[u8]) -> Result<Vec<Numbered>, Failure>
-    ensures { let said = script_read text.now in MatchResult result (λ v. said ≡ Ok (map numbered v.items)) (λ e. Fails e said) }
+    ensures { Gives (λ v. map numbered v.items) result (script_read text.now) }
 {
     let mut reading = Reading {
         lines: Vec::new(heap),
@@ -99,7 +99,7 @@ pub fn read_script(heap: Global, text: &[u8]) -> Result<Vec<Numbered>, Failure>
 
 // The machine after one line more.
 fn asked(heap: Global, wanted: Wanted, line: &Numbered) -> Result<Wanted, Failure>
-    ensures { let said = asked wanted line.now.number (said_of line.now.line) in MatchResult result (λ w. said ≡ Ok w) (λ e. Fails e said) }
+    ensures { Gives (λ w. w) result (asked wanted line.now.number (said_of line.now.line)) }
 {
     match &line.line {
         Line::Memory(cells) if *cells > 65536 => {
@@ -123,7 +123,7 @@ fn asked(heap: Global, wanted: Wanted, line: &Numbered) -> Result<Wanted, Failur
 
 // The machine that the lines ask for.
 pub fn wanted_machine(heap: Global, lines: &[Numbered]) -> Result<Wanted, Failure>
-    ensures { let said = wanted_after usual (map numbered lines.now) in MatchResult result (λ w. said ≡ Ok w) (λ e. Fails e said) }
+    ensures { Gives (λ w. w) result (wanted_after usual (map numbered lines.now)) }
 {
     let mut wanted = Wanted {
         cells: 65536,

@@ -10,24 +10,26 @@ use units::unit::{Status, Unit};
 
 // What a unit answers to a code and two bytes, and its wait; nothing where it lacks the code.
 fn answered<U: Unit>(unit: &mut U, code: u8, a: u8, b: u8) -> Option<(u8, u8)> {
-    let none = Marked::unheld(0);
-    let status = Status {
-        high: none,
-        low: none,
-    };
+    let status = Status::from(Marked::unheld(0));
     let reply = unit
         .operate(code, Marked::unheld(a), Marked::unheld(b), status)
         .ok()?;
     Some((reply.result.byte, reply.wait))
 }
 
+// The last three calls of a sequence, which answer the third byte, the second and the first.
+fn unloaded<U: Unit>(unit: &mut U, code: u8) -> Option<[u8; 3]> {
+    let (third, _) = answered(unit, code, 0, 0)?;
+    let (second, _) = answered(unit, code, 0, 0)?;
+    let (first, _) = answered(unit, code, 0, 0)?;
+    Some([first, second, third])
+}
+
 // The five calls of amc or aic on one column.
 fn column<U: Unit>(unit: &mut U, code: u8, s: [u8; 4]) -> Option<([u8; 4], u8)> {
     let _ = answered(unit, code, s[0], s[1])?;
     let (fourth, wait) = answered(unit, code, s[2], s[3])?;
-    let (third, _) = answered(unit, code, 0, 0)?;
-    let (second, _) = answered(unit, code, 0, 0)?;
-    let (first, _) = answered(unit, code, 0, 0)?;
+    let [first, second, third] = unloaded(unit, code)?;
     Some(([first, second, third, fourth], wait))
 }
 
@@ -37,14 +39,11 @@ fn turned<U: Unit>(unit: &mut U, n: u32, amount: u8) -> Option<u32> {
     let _ = answered(unit, 4, s[0], s[1])?;
     let _ = answered(unit, 4, s[2], s[3])?;
     let (fourth, _) = answered(unit, 4, amount, 0)?;
-    let (third, _) = answered(unit, 4, 0, 0)?;
-    let (second, _) = answered(unit, 4, 0, 0)?;
-    let (first, _) = answered(unit, 4, 0, 0)?;
+    let [first, second, third] = unloaded(unit, 4)?;
     Some(u32::from_le_bytes([first, second, third, fourth]))
 }
 
-// The S-box and its inverse: bytes of the first round of the AES standard's worked example, and of its text.
-// `rt` and `tally` stay two parameters: a struct of both would be built once and taken apart at each line printed.
+// The S-box and its inverse, at bytes of the AES standard's worked example; a struct of rt and tally would be taken apart.
 fn boxes(rt: &HostRuntime, tally: &mut Tally) -> io::Result<()> {
     let table = [
         (0x00, 0x63),
