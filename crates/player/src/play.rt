@@ -30,22 +30,6 @@ struct Player<'r, B: Bus, U: Unit> {
     totals: Totals,
 }
 
-// Writes a line of bytes.
-fn say(rt: &HostRuntime, text: &[u8]) -> Result<(), Failure> {
-    let mut out = rt.stdout();
-    out.write_all(text)?;
-    out.write_all(b"\n")?;
-    Ok(())
-}
-
-// Writes why no call is made.
-fn pass_over(rt: &HostRuntime, label: &[u8], why: &[u8]) -> Result<(), Failure> {
-    let mut text = Vec::from_slice(rt.alloc(), label)?;
-    text.extend_from_slice(b": ")?;
-    text.extend_from_slice(why)?;
-    say(rt, text.as_slice())
-}
-
 // The call of a line that opens no interval and closes none, if it is one that can be made.
 fn call_of<'i>(
     heap: Global,
@@ -85,11 +69,27 @@ fn single<B: Bus, U: Unit>(
 }
 
 impl<'r, B: Bus, U: Unit> Player<'r, B, U> {
+    // Writes a line of bytes.
+    fn say(&self, text: &[u8]) -> Result<(), Failure> {
+        let mut out = self.rt.stdout();
+        out.write_all(text)?;
+        out.write_all(b"\n")?;
+        Ok(())
+    }
+
+    // Writes why no call is made.
+    fn pass_over(&self, label: &[u8], why: &[u8]) -> Result<(), Failure> {
+        let mut text = Vec::from_slice(self.rt.alloc(), label)?;
+        text.extend_from_slice(b": ")?;
+        text.extend_from_slice(why)?;
+        self.say(text.as_slice())
+    }
+
     // Counts an answer and writes it.
     fn tell(&mut self, label: &[u8], answer: &Result<Answer, Unmade>) -> Result<(), Failure> {
         self.totals.count(answer);
         let text = answer_line(self.rt.alloc(), label, answer)?;
-        say(self.rt, text.as_slice())
+        self.say(text.as_slice())
     }
 
     // Opens an interval under a name that is free.
@@ -103,7 +103,7 @@ impl<'r, B: Bus, U: Unit> Player<'r, B, U> {
     ) -> Result<(), Failure> {
         let heap = self.rt.alloc();
         if find(&self.open, name).is_some() {
-            return pass_over(self.rt, label, b"name taken");
+            return self.pass_over(label, b"name taken");
         }
         let name = Vec::from_slice(heap, name)?;
         let answer = single(heap, &mut self.terminal, Call::Open(seal, first, count))?;
@@ -118,7 +118,7 @@ impl<'r, B: Bus, U: Unit> Player<'r, B, U> {
     fn close(&mut self, label: &[u8], name: &[u8]) -> Result<(), Failure> {
         let heap = self.rt.alloc();
         let Some((name, interval)) = self.open.remove_entry(name) else {
-            return pass_over(self.rt, label, b"no interval");
+            return self.pass_over(label, b"no interval");
         };
         let answer = single(heap, &mut self.terminal, Call::Close(interval))?;
         self.tell(label, &answer)?;
@@ -132,7 +132,7 @@ impl<'r, B: Bus, U: Unit> Player<'r, B, U> {
     fn other(&mut self, label: &[u8], line: &Line) -> Result<(), Failure> {
         let heap = self.rt.alloc();
         let Some(call) = call_of(heap, line, &self.open)? else {
-            return pass_over(self.rt, label, b"no interval");
+            return self.pass_over(label, b"no interval");
         };
         let answer = single(heap, &mut self.terminal, call)?;
         self.tell(label, &answer)
@@ -198,7 +198,7 @@ pub fn play(rt: &HostRuntime, text: &[u8]) -> Result<(), Failure> {
     memories.fill(heap, lines.as_slice())?;
     let store = match Store::new(memories.bytes.as_mut_slice(), memories.marks.as_mut_slice()) {
         Ok(store) => store,
-        // not reached, as both memories have the same cells, 65536 at most; that is not proved here
+        // not reached, as both memories have the same cells, 65536 at most: to say so would take lemmas on what fill leaves
         Err(_) => return Err(Failure::NoMemory),
     };
     match page {
