@@ -4,11 +4,11 @@
 ghost use Rattle.std.specs.Prelude.{◌≡◌};
 ghost use Rattle.marks.specs.Marks.{held, join, mark_of, mark_byte, shown, unheld, lifted, JoinLaws};
 
-// Whether a byte may be shown.
+// Whether a byte may be shown, each mark by its byte in memory.
 #[derive(Clone, Copy, Debug, PartialEq, Eq)]
 pub enum Mark {
-    Unheld,
-    Held,
+    Unheld = 0,
+    Held = 1,
 }
 
 // A byte with its mark.
@@ -51,10 +51,7 @@ impl From<Mark> for u8 {
     ghost from_gives = { λ m b. b ≡ mark_byte m };
 
     fn from(mark: Mark) -> u8 {
-        match mark {
-            Mark::Unheld => 0,
-            Mark::Held => 1,
-        }
+        mark as u8
     }
 }
 
