@@ -32,7 +32,7 @@ impl<B> OddsBoard<B> {
         ensures { result ≡ (if on_board self.now.page address then Some (address - self.now.page * 256) else None) }
     {
         let first = self.page as u16 * 256;
-        if first <= address && address < first + 64 {
+        if (first..first + 64).contains(&address) {
             Some((address - first) as usize)
         } else {
             None
