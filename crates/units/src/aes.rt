@@ -12,7 +12,7 @@ use super::sequence::{Sequence, joined};
 use super::unit::{Refusal, Reply, Status, Unit};
 use marks::Marked;
 
-// Which way a column is mixed: an enum of two, since the contract of a closure would say in relations what `row_of` says as an equation.
+// Which way a column is mixed: an enum, since it chooses both the row and the wait.
 #[derive(Clone, Copy)]
 enum Direction {
     Mix,

@@ -33,7 +33,7 @@ fn times(m: u8, b: u8) -> u8
     sum
 }
 
-// One byte of a mixed column. Two rows and not one with four factors, since a factor of 1 would be computed too.
+// One byte of a mixed column: two rows, as the rules give them, each a line.
 pub fn mix_row(a: u8, b: u8, c: u8, d: u8) -> u8
     ensures { result ≡ mix_row a b c d }
 {

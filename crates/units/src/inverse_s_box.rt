@@ -21,7 +21,7 @@ const INVERSE_SBOX: [u8; 256] = [
     0x17, 0x2B, 0x04, 0x7E, 0xBA, 0x77, 0xD6, 0x26, 0xE1, 0x69, 0x14, 0x63, 0x55, 0x21, 0x0C, 0x7D,
 ];
 
-// The inverse S-box at a byte.
+// The inverse S-box at a byte. A table and a function of its own, as the project has them: its rule is another.
 pub fn restore(b: u8) -> u8
     ensures entry { result ≡ restored b }
     ensures undone { substituted result ≡ b }

@@ -22,7 +22,7 @@ const SBOX: [u8; 256] = [
     0x8C, 0xA1, 0x89, 0x0D, 0xBF, 0xE6, 0x42, 0x68, 0x41, 0x99, 0x2D, 0x0F, 0xB0, 0x54, 0xBB, 0x16,
 ];
 
-// The S-box at a byte. Two tables with a function each, as the project has them: each has a rule of its own.
+// The S-box at a byte. A table and a function of its own, as the project has them: its rule is another.
 pub fn substitute(b: u8) -> u8
     ensures entry { result ≡ substituted b }
     ensures undone { restored result ≡ b }

@@ -23,11 +23,11 @@ impl From<Marked> for Status {
         Status {
             high: Marked {
                 byte: value.byte / 16,
-                mark: value.mark,
+                ..value
             },
             low: Marked {
                 byte: value.byte % 16,
-                mark: value.mark,
+                ..value
             },
         }
     }
