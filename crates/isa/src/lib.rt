@@ -34,8 +34,7 @@ pub enum Alu {
     Sbc = 13,
 }
 
-// An instruction, its operands as a programmer writes them and in that order. Registers 0 to 7 are
-// r0 to r7 and 8 to 15 are a0 to a7; pair i is a_i and r_i.
+// An instruction, its operands as a programmer writes them: registers 0 to 7 are r0 to r7 and 8 to 15 a0 to a7; pair i is a_i and r_i.
 #[derive(Clone, Copy, PartialEq, Eq)]
 pub enum Instruction {
     // one above the new stack pointer
@@ -93,8 +92,7 @@ pub enum Refusal {
     ReservedWord = 31,
 }
 
-// What the word that begins with these bytes says; `second` counts only where the word has two bytes.
-// One match over byte ranges with guards, as the project has it for the decoder: it reads as the table does.
+// What a word says, `second` where it has two bytes: one match over byte ranges with guards, as the project has it for the decoder.
 pub fn decode(first: Option<u8>, second: Option<u8>) -> Result<Instruction, Refusal>
     ensures told { numbered result ≡ decoded first second }
     ensures written_back { WritesBack first second (numbered result) }
@@ -104,7 +102,7 @@ pub fn decode(first: Option<u8>, second: Option<u8>) -> Result<Instruction, Refu
     };
     let low = first % 16;
     let operand = second.unwrap_or(0);
-    let address = low as u16 * 256 + operand as u16;
+    let address = u16::from_be_bytes([low, operand]);
     let src = operand / 16;
     let dst = operand % 16;
     match first {
@@ -193,9 +191,9 @@ impl Instruction {
                 target < 4096,
             Instruction::Mvi(_, dst) => dst < 16,
             Instruction::Alu(_, src, dst) | Instruction::Mov(src, dst) => src < 16 && dst < 16,
-            Instruction::Adi(amount, dst) | Instruction::Sbi(amount, dst) => 1 <= amount
-                && amount <= 16
-                && dst < 16,
+            Instruction::Adi(amount, dst) | Instruction::Sbi(amount, dst) => (1..=16).contains(
+                &amount,
+            ) && dst < 16,
             Instruction::Aluc(code, src, dst) => code < 16 && src < 16 && dst < 16,
             Instruction::Ldb(pair, dst) | Instruction::Lpb(pair, dst) => pair < 8 && dst < 16,
             Instruction::Stb(src, pair) | Instruction::Spb(src, pair) => src < 16 && pair < 8,
@@ -251,7 +249,8 @@ fn with_address(opcode: u8, address: u16) -> Word
     requires address { address < 4096 }
     ensures { result ≡ with_address opcode address }
 {
-    Word::Two(opcode * 16 + (address / 256) as u8, (address % 256) as u8)
+    let [high, low] = address.to_be_bytes();
+    Word::Two(opcode * 16 + high, low)
 }
 
 #[cfg(test)]

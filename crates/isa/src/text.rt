@@ -1,6 +1,6 @@
 // Instructions in assembler syntax.
 ghost use Rattle.std.specs.Prelude.{Some};
-ghost use Rattle.isa.specs.Text.{hex_text, register_text, alu_name, branch_name, unit_text, instruction_text};
+ghost use Rattle.isa.specs.Text.{hex_text, register_text, alu_name, branch_name, instruction_text};
 
 use super::{Alu, Flag, Instruction};
 use std::fmt;
@@ -56,31 +56,6 @@ impl fmt::Display for Alu {
     }
 }
 
-// An operation of the extension unit: by its mnemonic if it has one, else by its code, which is a number since each
-// unit reads that field of the word in its own way.
-#[derive(Drop)]
-struct UnitOperation {
-    code: u8,
-    src: Register,
-    dst: Register,
-}
-
-impl fmt::Display for UnitOperation {
-    ghost output = { λ x. Some (unit_text x.code x.src.0 x.dst.0) };
-
-    fn fmt<W: fmt::Write>(&self, f: &mut fmt::Formatter<W>) -> fmt::Result {
-        let UnitOperation { code, src, dst } = self;
-        match code {
-            0 => write!(f, "asb {src}, {dst}"),
-            1 => write!(f, "aib {src}, {dst}"),
-            2 => write!(f, "amc {src}, {dst}"),
-            3 => write!(f, "aic {src}, {dst}"),
-            4 => write!(f, "swd {src}, {dst}"),
-            _ => write!(f, "aluc {code}, {src}, {dst}"),
-        }
-    }
-}
-
 // The mnemonic of a branch.
 impl fmt::Display for Flag {
     ghost output = { λ flag. Some (branch_name flag) };
@@ -115,9 +90,17 @@ impl fmt::Display for Instruction {
             Instruction::Adi(amount, dst) => write!(f, "adi {amount}, {}", Register(dst)),
             Instruction::Sbi(amount, dst) => write!(f, "sbi {amount}, {}", Register(dst)),
             Instruction::Aluc(code, src, dst) => {
+                // by its mnemonic if it has one, else by its code, a number since each unit reads that field in its own way
                 let src = Register(src);
                 let dst = Register(dst);
-                write!(f, "{}", UnitOperation { code, src, dst })
+                match code {
+                    0 => write!(f, "asb {src}, {dst}"),
+                    1 => write!(f, "aib {src}, {dst}"),
+                    2 => write!(f, "amc {src}, {dst}"),
+                    3 => write!(f, "aic {src}, {dst}"),
+                    4 => write!(f, "swd {src}, {dst}"),
+                    _ => write!(f, "aluc {code}, {src}, {dst}"),
+                }
             }
             Instruction::Mov(src, dst) => write!(f, "mov {}, {}", Register(src), Register(dst)),
             Instruction::Ldb(pair, dst) => write!(f, "ldb {pair}, {}", Register(dst)),
