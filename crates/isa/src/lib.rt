@@ -34,7 +34,7 @@ pub enum Alu {
     Sbc = 13,
 }
 
-// An instruction, its operands as a programmer writes them: registers 0 to 7 are r0 to r7 and 8 to 15 a0 to a7; pair i is a_i and r_i.
+// An instruction, its operands in the order that a programmer writes: registers 0 to 7 are r0 to r7, 8 to 15 are a0 to a7, and pair i is a_i and r_i.
 #[derive(Clone, Copy, PartialEq, Eq)]
 pub enum Instruction {
     // one above the new stack pointer
@@ -92,7 +92,7 @@ pub enum Refusal {
     ReservedWord = 31,
 }
 
-// What a word says, `second` where it has two bytes: one match over byte ranges with guards, as the project has it for the decoder.
+// What the word that begins with these bytes says, `second` counting in a word of two alone: one match over byte ranges, as the project has it for the decoder.
 pub fn decode(first: Option<u8>, second: Option<u8>) -> Result<Instruction, Refusal>
     ensures told { numbered result ≡ decoded first second }
     ensures written_back { WritesBack first second (numbered result) }
@@ -191,9 +191,8 @@ impl Instruction {
                 target < 4096,
             Instruction::Mvi(_, dst) => dst < 16,
             Instruction::Alu(_, src, dst) | Instruction::Mov(src, dst) => src < 16 && dst < 16,
-            Instruction::Adi(amount, dst) | Instruction::Sbi(amount, dst) => (1..=16).contains(
-                &amount,
-            ) && dst < 16,
+            Instruction::Adi(amount, dst) | Instruction::Sbi(amount, dst) => dst < 16
+                && (1..=16).contains(&amount),
             Instruction::Aluc(code, src, dst) => code < 16 && src < 16 && dst < 16,
             Instruction::Ldb(pair, dst) | Instruction::Lpb(pair, dst) => pair < 8 && dst < 16,
             Instruction::Stb(src, pair) | Instruction::Spb(src, pair) => src < 16 && pair < 8,

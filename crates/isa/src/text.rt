@@ -90,9 +90,9 @@ impl fmt::Display for Instruction {
             Instruction::Adi(amount, dst) => write!(f, "adi {amount}, {}", Register(dst)),
             Instruction::Sbi(amount, dst) => write!(f, "sbi {amount}, {}", Register(dst)),
             Instruction::Aluc(code, src, dst) => {
-                // by its mnemonic if it has one, else by its code, a number since each unit reads that field in its own way
                 let src = Register(src);
                 let dst = Register(dst);
+                // by its mnemonic if it has one, else by its code, a number since each unit reads that field in its own way
                 match code {
                     0 => write!(f, "asb {src}, {dst}"),
                     1 => write!(f, "aib {src}, {dst}"),
