@@ -43,8 +43,9 @@ impl Core {
         let second = first.wrapping_sub(1);
         writable(bus, first)?;
         writable(bus, second)?;
-        write(bus, first, Marked::unheld((self.pc / 256) as u8))?;
-        write(bus, second, Marked::unheld((self.pc % 256) as u8))?;
+        let [low, high] = self.pc.to_le_bytes();
+        write(bus, first, Marked::unheld(high))?;
+        write(bus, second, Marked::unheld(low))?;
         self.sp = second.wrapping_sub(1);
         self.pc = target;
         Ok(())
@@ -59,7 +60,7 @@ impl Core {
         let low = read(bus, first)?.shown().ok_or(Cause::HeldReturn)?;
         let high = read(bus, second)?.shown().ok_or(Cause::HeldReturn)?;
         self.sp = second;
-        self.pc = high as u16 % 16 * 256 + low as u16;
+        self.pc = u16::from_le_bytes([low, high % 16]);
         Ok(())
     }
 }

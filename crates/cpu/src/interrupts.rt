@@ -18,8 +18,7 @@ fn lowest(lines: u16) -> Option<u8>
     Some(lines.trailing_zeros() as u8)
 }
 
-// Copies the first pairs of one set of registers into another.
-// By number, as the halves of a pair lie apart and may be past the end: slices would have to be cut to fit, which is no plainer.
+// Copies the first pairs of one set of registers into another: by number, since slices would have to be cut to fit, which is no plainer.
 fn copy_pairs(pairs: u8, source: &[Marked], target: &mut [Marked])
     ensures { target.new ≡ pairs_copied pairs source.now target.old }
 {
@@ -69,10 +68,9 @@ impl Core {
     pub(crate) fn rie(&mut self, pair: u8)
         ensures { self.new ≡ enabled_read self.old pair }
     {
-        let low = Marked::unheld((self.enabled % 256) as u8);
-        let high = Marked::unheld((self.enabled / 256) as u8);
-        self.put(pair, low);
-        put_at(&mut self.registers, pair as usize + 8, high);
+        let [low, high] = self.enabled.to_le_bytes();
+        self.put(pair, Marked::unheld(low));
+        put_at(&mut self.registers, pair as usize + 8, Marked::unheld(high));
     }
 
     pub(crate) fn sie(&mut self, pair: u8) -> Result<(), Cause>

@@ -27,7 +27,7 @@ impl Core {
             dst,
             Marked {
                 byte: alu::not(a.byte),
-                mark: a.mark,
+                ..a
             },
         );
     }

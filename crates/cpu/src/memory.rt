@@ -38,7 +38,7 @@ impl Core {
         if low.mark.join(high.mark).is_held() {
             return Err(Cause::HeldPair);
         }
-        Ok(high.byte as u16 * 256 + low.byte as u16)
+        Ok(u16::from_le_bytes([low.byte, high.byte]))
     }
 
     pub(crate) fn ldb<B: Bus>(&mut self, bus: &B, pair: u8, dst: u8) -> Result<(), Cause>
@@ -67,7 +67,7 @@ impl Core {
             pair,
             Marked {
                 byte: pointer.byte.wrapping_add(1),
-                mark: pointer.mark,
+                ..pointer
             },
         );
     }

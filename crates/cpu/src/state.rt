@@ -79,10 +79,7 @@ impl Core {
         ensures { result ≡ cleared pairs }
     {
         let zero = Marked::unheld(0);
-        let status = Status {
-            high: zero,
-            low: zero,
-        };
+        let status = Status::from(zero);
         Core {
             registers: [zero; 16],
             status,
