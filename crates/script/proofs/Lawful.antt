@@ -6,7 +6,6 @@ use Rattle.script.specs.declared.faults.Fault.{Fault}
 use Rattle.script.specs.declared.operands.UnitName.{UnitName}
 use Rattle.script.specs.declared.operands.UnitName.TheVariants.{Aes, Cham}
 use Rattle.script.specs.declared.verbs.Verb.TheVariants as verb
-use Rattle.terminal.specs.Names.{seal_text}
 use Rattle.script.specs.Bytes.{bytes_of}
 use Rattle.script.specs.Lines.{Said, memory, bytes, held, board, unit, load, start, raise, run, put, opening, entry, close, cell, register, status, u8_at, u16_at, u32_at, bytes_at, line_said}
 use Rattle.script.specs.Numbers.{number_up_to}
@@ -14,7 +13,7 @@ use Rattle.script.specs.Operands.{seal_of, unit_of}
 use Rattle.script.specs.Reads.{and_then}
 use Rattle.script.specs.Text.{hex_of}
 use Rattle.script.specs.Words.{word_at}
-use Rattle.script.specs.Writes.{u8_text, u16_text, u32_text, unit_text, trail, is_word, written_of, Writable, Sized}
+use Rattle.script.specs.Writes.{seal_text, u8_text, u16_text, u32_text, unit_text, trail, is_word, written_of, Writable, Sized}
 use Rattle.script.proofs.ReadBack.{u8_reads, u16_reads, u32_reads, bytes_read, u8_word, u16_word, u32_word, hex_word}
 use Rattle.script.proofs.WrittenWords.{AllWords, words_of, line_reads}
 

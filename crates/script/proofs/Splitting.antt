@@ -1,10 +1,10 @@
 -- One character more of a word. Assumes nothing.
-use Rattle.std.proofs.Common.{◌≡◌, ℕ, zero, suc, ◌+◌, ◌-◌, ◌≤◌, Bool, true, false, not, cond, List, [], ◌∷◌, length, Some, None, Option, refl, ap, sym, ◌∙◌, arith, nat_lt, rules}
+use Rattle.std.proofs.Common.{◌≡◌, ℕ, suc, ◌+◌, ◌≤◌, Bool, true, false, not, cond, List, [], ◌∷◌, length, Some, None, Option, refl, ap, sym, ◌∙◌, arith, nat_lt, rules}
 use Rattle.std.specs.List.{position_or_len}
 use Rattle.std.specs.Option.{unwrap_or}
 use Rattle.std.proofs.lemmas.List.Recursion.{is_position_or_len}
 use Rattle.std.proofs.lemmas.List.Sums.{prefix_len-le-length}
-use Rattle.script.specs.Words.{is_blank, ends_word, blank_count, word_length, after_word, word_at}
+use Rattle.script.specs.Words.{is_blank, ends_word, blank_count, word_length}
 
 or_length : (n m : ℕ) → n ≤ m → unwrap_or (cond (nat_lt n m) (Some n) None) m ≡ n
 or_length n m h = search rules
@@ -30,8 +30,3 @@ letters_first c cs = ap (cond (ends_word c) 0) (let e : suc (word_length cs) ≡
 
 pub word_first : (c : ℕ) (cs : List ℕ) → ends_word c ≡ false → word_length (c ∷ cs) ≡ suc (word_length cs)
 word_first c cs h = ap (λ b. cond b 0 (suc (word_length cs))) h
-
--- a word further on is one sooner after the first
-pub word_later : (n : ℕ) (text : List ℕ) → (n ≡ 0 → ⊥) → word_at (n - 1) (after_word text) ≡ word_at n text
-word_later zero text h = absurd (h refl)
-word_later (suc n) text h = ap (λ k. word_at k (after_word text)) (let e : suc n - 1 ≡ n = omega arith in e)

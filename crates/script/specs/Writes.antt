@@ -1,6 +1,7 @@
 -- How lines are written. Assumes nothing.
 use Rattle.std.specs.Prelude.{◌≡◌, ℕ, ◌/◌, ◌%◌, ◌<◌, Bool, true, false, cond, List, [], ◌∷◌, ◌++◌, Some, Ok, codes, slice_index}
-use Rattle.terminal.specs.Names.{seal_text}
+use Rattle.terminal.specs.declared.interval.Seal.{Seal}
+use Rattle.terminal.specs.declared.interval.Seal.TheVariants.{Sealed, Practice}
 use Rattle.script.specs.declared.operands.UnitName.{UnitName}
 use Rattle.script.specs.declared.operands.UnitName.TheVariants.{Aes, Cham}
 use Rattle.script.specs.Labels.{first_of}
@@ -24,6 +25,10 @@ u32_text n = number_text (n / 16777216 ∷ (n / 65536 % 256 ∷ (n / 256 % 256 �
 abbrev pub unit_text : UnitName → List ℕ
 unit_text Aes = codes "aes"
 unit_text Cham = codes "cham"
+
+abbrev pub seal_text : Seal → List ℕ
+seal_text Sealed = codes "sealed"
+seal_text Practice = codes "practice"
 
 -- the words that follow the first
 abbrev pub operand_words : Said → List (List ℕ)

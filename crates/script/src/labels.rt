@@ -45,9 +45,9 @@ pub fn label(heap: Global, line: &Line) -> Result<Vec<u8>, AllocError>
     ensures { IfOk result (λ v. v.items ≡ label_of (said_of line.now)) }
 {
     match line {
-        Line::Open(name, ..) => named(heap, "open", name),
-        Line::Entry(name, ..) => named(heap, "entry", name),
-        Line::Close(name) => named(heap, "close", name),
+        Line::Open(name, ..) | Line::Entry(name, ..) | Line::Close(name) => {
+            named(heap, first_word(line), name)
+        }
         _ => Vec::from_slice(heap, first_word(line).as_bytes()),
     }
 }

@@ -64,9 +64,9 @@ pub(crate) fn read_number(word: &[u8], most: u32) -> Result<u32, Fault>
     if digits.is_empty() {
         return Err(Fault::NoNumber);
     }
-    match value(base, digits) {
-        None => Err(Fault::NoNumber),
-        Some(value) if value <= most as u64 => Ok(value as u32),
-        Some(_) => Err(Fault::TooLarge),
+    let value = value(base, digits).ok_or(Fault::NoNumber)?;
+    if value > u64::from(most) {
+        return Err(Fault::TooLarge);
     }
+    Ok(value as u32)
 }

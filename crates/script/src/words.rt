@@ -12,7 +12,7 @@ fn is_blank(b: u8) -> bool
 fn ends_word(b: u8) -> bool
     ensures { result ≡ ends_word b }
 {
-    b == b' ' || b == b'\t' || b == b'\r' || b == b'#'
+    is_blank(b) || b == b'#'
 }
 
 // How many blanks stand at the front.
@@ -35,7 +35,7 @@ fn word_length(text: &[u8]) -> usize
         .unwrap_or(text.len())
 }
 
-// The first word, empty if there is none, and what follows it.
+// The first word and what follows it: no word is an empty one, so no Option is needed.
 fn next_word(text: &[u8]) -> (&[u8], &[u8])
     ensures first { result.0.now ≡ first_word text.now }
     ensures rest { result.1.now ≡ after_word text.now }

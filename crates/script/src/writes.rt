@@ -2,8 +2,7 @@
 ghost use Rattle.std.specs.Prelude.{◌≡◌, ℕ, ◌<◌, List, [], ◌∷◌, ◌++◌, IfOk, OnOk};
 ghost use Rattle.script.specs.Lines.{said_of};
 ghost use Rattle.script.specs.Text.{hex_digit, hex_of};
-ghost use Rattle.terminal.specs.Names.{seal_text};
-ghost use Rattle.script.specs.Writes.{number_text, u8_text, u16_text, u32_text, unit_text, operand_words, trail, written_of, Small, Sized, ReadBack};
+ghost use Rattle.script.specs.Writes.{number_text, u8_text, u16_text, u32_text, unit_text, seal_text, operand_words, trail, written_of, Small, Sized, ReadBack};
 
 use super::labels::first_word;
 use super::lines::Line;
@@ -75,8 +74,7 @@ impl Word for u16 {
     ghost written = { u16_text };
 
     fn push_to(self, text: &mut Vec<u8>) -> Result<(), AllocError> {
-        let [high, low] = self.to_be_bytes();
-        push_number(text, &[high, low])
+        push_number(text, &self.to_be_bytes())
     }
 }
 
@@ -99,7 +97,7 @@ impl Word for UnitName {
     }
 }
 
-// Its Display writes to no Vec of bytes without an error of another kind.
+// Words of its own: Display into a Vec of bytes fails with an io error.
 impl Word for Seal {
     ghost written = { seal_text };
 

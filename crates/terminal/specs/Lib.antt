@@ -1,5 +1,4 @@
 pub mod Calls
-pub mod Names
 pub mod Numbers
 pub mod Relations
 pub mod Responses

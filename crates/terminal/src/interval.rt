@@ -1,31 +1,18 @@
 // A betting interval that is open.
-ghost use Rattle.std.specs.Prelude.{◌≡◌, ◌<◌, Some};
+ghost use Rattle.std.specs.Prelude.{◌≡◌, ◌<◌};
 ghost use Rattle.buses.specs.Changes.{Becomes};
-ghost use Rattle.terminal.specs.Names.{seal_text};
 ghost use Rattle.terminal.specs.Numbers.{numbered};
 ghost use Rattle.terminal.specs.Terminals.{cells_entered, cells_of, checked, is_plain, left, lifted, mark_of, told};
 
 use super::calls::Refusal;
 use buses::bus::{Bus, Kind};
 use marks::{Mark, Marked};
-use std::fmt;
 
 // Whether the bets of an interval are held until its close.
 #[derive(Clone, Copy, Debug, PartialEq, Eq)]
 pub enum Seal {
     Sealed,
     Practice,
-}
-
-impl fmt::Display for Seal {
-    ghost output = { λ s. Some (seal_text s) };
-
-    fn fmt<W: fmt::Write>(&self, f: &mut fmt::Formatter<W>) -> fmt::Result {
-        match self {
-            Seal::Sealed => write!(f, "sealed"),
-            Seal::Practice => write!(f, "practice"),
-        }
-    }
 }
 
 // The mark of an entry.

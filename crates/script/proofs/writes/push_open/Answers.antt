@@ -1,6 +1,5 @@
 use Rattle.std.proofs.Common.{[], ◌∷◌, vec_items}
-use Rattle.terminal.specs.Names.{seal_text}
-use Rattle.script.specs.Writes.{u16_text}
+use Rattle.script.specs.Writes.{seal_text, u16_text}
 use Rattle.script.proofs.Trails.{push_then, push_last, on_ok}
 use Rattle.script.proofs.writes.push_open.Goals as goal
 

@@ -1,6 +1,5 @@
 use Rattle.std.proofs.Common.{◌≡◌, [], ◌∷◌, ◌++◌, IfOk, vec_items, subst}
-use Rattle.terminal.specs.Names.{seal_text}
-use Rattle.script.specs.Writes.{u8_text, u16_text, trail}
+use Rattle.script.specs.Writes.{seal_text, u8_text, u16_text, trail}
 use Rattle.script.proofs.Trails.{pushed_for}
 use Rattle.script.proofs.writes.push_operands.Goals as goal
 
