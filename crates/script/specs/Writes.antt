@@ -1,5 +1,5 @@
 -- How lines are written. Assumes nothing.
-use Rattle.std.specs.Prelude.{◌≡◌, ℕ, ◌/◌, ◌%◌, ◌<◌, Bool, true, false, cond, List, [], ◌∷◌, ◌++◌, Some, Ok, codes, slice_index}
+use Rattle.std.specs.Prelude.{◌≡◌, IfOk, Result, ℕ, ◌/◌, ◌%◌, ◌<◌, Bool, true, false, cond, List, [], ◌∷◌, ◌++◌, Some, Ok, codes, slice_index}
 use Rattle.terminal.specs.declared.interval.Seal.{Seal}
 use Rattle.terminal.specs.declared.interval.Seal.TheVariants.{Sealed, Practice}
 use Rattle.script.specs.declared.operands.UnitName.{UnitName}
@@ -8,6 +8,10 @@ use Rattle.script.specs.Labels.{first_of}
 use Rattle.script.specs.Lines.{Said, memory, bytes, held, board, unit, load, start, raise, run, put, opening, entry, close, cell, register, status, line_said}
 use Rattle.script.specs.Text.{hex_of}
 use Rattle.script.specs.Words.{ends_word}
+
+-- an addition to a text, where memory sufficed
+abbrev pub Adds : {E : Type 0} → List ℕ → List ℕ → Result (Unit {0}) E → List ℕ → Type 0
+Adds old new result added = IfOk result (λ _. new ≡ old ++ added)
 
 -- a number as 0x (48 120) and the digits of its bytes
 abbrev pub number_text : List ℕ → List ℕ

@@ -2,11 +2,11 @@
 ghost use Rattle.std.specs.Prelude.{◌≡◌, ℕ, ◌<◌, List, [], ◌∷◌, ◌++◌, IfOk, OnOk};
 ghost use Rattle.script.specs.Lines.{said_of};
 ghost use Rattle.script.specs.Text.{hex_digit, hex_of};
-ghost use Rattle.script.specs.Writes.{number_text, u8_text, u16_text, u32_text, unit_text, seal_text, operand_words, trail, written_of, Small, Sized, ReadBack};
+ghost use Rattle.script.specs.Writes.{Adds, number_text, u8_text, u16_text, u32_text, unit_text, seal_text, operand_words, trail, written_of, Small, Sized, ReadBack};
 
 use super::labels::first_word;
 use super::lines::Line;
-use super::operands::UnitName;
+use super::operands::Operand;
 use std::alloc::{AllocError, Global};
 use terminal::interval::Seal;
 
@@ -20,7 +20,7 @@ fn hex_digit(n: u8) -> u8
 
 // Adds the digits of some bytes, two to a byte.
 fn push_hex(text: &mut Vec<u8>, bytes: &[u8]) -> Result<(), AllocError>
-    ensures { OnOk result (text.new.items ≡ text.old.items ++ hex_of bytes.now) }
+    ensures { Adds text.old.items text.new.items result (hex_of bytes.now) }
 {
     for b in bytes {
         text.push(hex_digit(*b / 16))?;
@@ -30,8 +30,8 @@ fn push_hex(text: &mut Vec<u8>, bytes: &[u8]) -> Result<(), AllocError>
 }
 
 // Adds a word.
-fn push_word(text: &mut Vec<u8>, word: &[u8]) -> Result<(), AllocError>
-    ensures { OnOk result (text.new.items ≡ text.old.items ++ (32 ∷ word.now)) }
+pub(crate) fn push_word(text: &mut Vec<u8>, word: &[u8]) -> Result<(), AllocError>
+    ensures { Adds text.old.items text.new.items result (32 ∷ word.now) }
 {
     text.push(b' ')?;
     text.extend_from_slice(word)?;
@@ -40,78 +40,23 @@ fn push_word(text: &mut Vec<u8>, word: &[u8]) -> Result<(), AllocError>
 
 // Adds a word of hex digits.
 fn push_bytes(text: &mut Vec<u8>, bytes: &[u8]) -> Result<(), AllocError>
-    ensures { OnOk result (text.new.items ≡ text.old.items ++ (32 ∷ hex_of bytes.now)) }
+    ensures { Adds text.old.items text.new.items result (32 ∷ hex_of bytes.now) }
 {
     text.push(b' ')?;
     push_hex(text, bytes)
 }
 
 // Adds the number that has these bytes, the highest first.
-fn push_number(text: &mut Vec<u8>, bytes: &[u8]) -> Result<(), AllocError>
-    ensures { OnOk result (text.new.items ≡ text.old.items ++ (32 ∷ number_text bytes.now)) }
+pub(crate) fn push_number(text: &mut Vec<u8>, bytes: &[u8]) -> Result<(), AllocError>
+    ensures { Adds text.old.items text.new.items result (32 ∷ number_text bytes.now) }
 {
     text.extend_from_slice(b" 0x")?;
     push_hex(text, bytes)
 }
 
-// A value that is written as a word.
-trait Word: Sized {
-    ghost written: { Self → List ℕ };
-
-    fn push_to(self, text: &mut Vec<u8>) -> Result<(), AllocError>
-        ensures { OnOk result (text.new.items ≡ text.old.items ++ (32 ∷ written self)) };
-}
-
-impl Word for u8 {
-    ghost written = { u8_text };
-
-    fn push_to(self, text: &mut Vec<u8>) -> Result<(), AllocError> {
-        push_number(text, &[self])
-    }
-}
-
-impl Word for u16 {
-    ghost written = { u16_text };
-
-    fn push_to(self, text: &mut Vec<u8>) -> Result<(), AllocError> {
-        push_number(text, &self.to_be_bytes())
-    }
-}
-
-impl Word for u32 {
-    ghost written = { u32_text };
-
-    fn push_to(self, text: &mut Vec<u8>) -> Result<(), AllocError> {
-        push_number(text, &self.to_be_bytes())
-    }
-}
-
-impl Word for UnitName {
-    ghost written = { unit_text };
-
-    fn push_to(self, text: &mut Vec<u8>) -> Result<(), AllocError> {
-        match self {
-            UnitName::Aes => push_word(text, b"aes"),
-            UnitName::Cham => push_word(text, b"cham"),
-        }
-    }
-}
-
-// Words of its own: Display into a Vec of bytes fails with an io error.
-impl Word for Seal {
-    ghost written = { seal_text };
-
-    fn push_to(self, text: &mut Vec<u8>) -> Result<(), AllocError> {
-        match self {
-            Seal::Sealed => push_word(text, b"sealed"),
-            Seal::Practice => push_word(text, b"practice"),
-        }
-    }
-}
-
 // Adds a value and bytes.
-fn push_with_bytes<T: Word>(text: &mut Vec<u8>, n: T, bytes: &[u8]) -> Result<(), AllocError>
-    ensures text { OnOk result (text.new.items ≡ text.old.items ++ trail (T.written n ∷ (hex_of bytes.now ∷ []))) }
+fn push_with_bytes<T: Operand>(text: &mut Vec<u8>, n: T, bytes: &[u8]) -> Result<(), AllocError>
+    ensures text { Adds text.old.items text.new.items result (trail (T.written n ∷ (hex_of bytes.now ∷ []))) }
     ensures fits { Small bytes.now }
 {
     n.push_to(text)?;
@@ -119,14 +64,14 @@ fn push_with_bytes<T: Word>(text: &mut Vec<u8>, n: T, bytes: &[u8]) -> Result<()
 }
 
 fn push_put(text: &mut Vec<u8>, address: u16, byte: u8) -> Result<(), AllocError>
-    ensures { OnOk result (text.new.items ≡ text.old.items ++ trail (u16_text address ∷ (u8_text byte ∷ []))) }
+    ensures { Adds text.old.items text.new.items result (trail (u16_text address ∷ (u8_text byte ∷ []))) }
 {
     address.push_to(text)?;
     byte.push_to(text)
 }
 
 fn push_entry(text: &mut Vec<u8>, name: &[u8], offset: u16, byte: u8) -> Result<(), AllocError>
-    ensures { OnOk result (text.new.items ≡ text.old.items ++ trail (name.now ∷ (u16_text offset ∷ (u8_text byte ∷ [])))) }
+    ensures { Adds text.old.items text.new.items result (trail (name.now ∷ (u16_text offset ∷ (u8_text byte ∷ [])))) }
 {
     push_word(text, name)?;
     push_put(text, offset, byte)
@@ -139,7 +84,7 @@ fn push_open(
     first: u16,
     count: u16,
 ) -> Result<(), AllocError>
-    ensures { OnOk result (text.new.items ≡ text.old.items ++ trail (name.now ∷ (seal_text seal ∷ (u16_text first ∷ (u16_text count ∷ []))))) }
+    ensures { Adds text.old.items text.new.items result (trail (name.now ∷ (seal_text seal ∷ (u16_text first ∷ (u16_text count ∷ []))))) }
 {
     push_word(text, name)?;
     seal.push_to(text)?;
@@ -149,7 +94,7 @@ fn push_open(
 
 // Adds the words that follow the first.
 fn push_operands(text: &mut Vec<u8>, line: &Line) -> Result<(), AllocError>
-    ensures text { OnOk result (text.new.items ≡ text.old.items ++ trail (operand_words (said_of line.now))) }
+    ensures text { Adds text.old.items text.new.items result (trail (operand_words (said_of line.now))) }
     ensures fits { Sized (said_of line.now) }
 {
     match line {

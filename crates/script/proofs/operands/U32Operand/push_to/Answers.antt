@@ -1,7 +1,7 @@
 use Rattle.std.proofs.Common.{◌≡◌, ◌∷◌, ◌++◌, IfOk, vec_items, ◌∙◌, subst, arith}
 use Rattle.script.specs.Writes.{number_text}
 use Rattle.script.proofs.WrittenHex.{four_bytes}
-use Rattle.script.proofs.writes.U32Word.push_to.Goals as goal
+use Rattle.script.proofs.operands.U32Operand.push_to.Goals as goal
 
 pub returns : goal.returns
 returns c =
