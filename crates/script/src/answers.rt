@@ -5,7 +5,7 @@ ghost use Rattle.script.specs.Text.{hex_text};
 ghost use Rattle.script.specs.Answers.{ending_text, run_text, yes_no, standing_text, refusal_text, answer_text};
 
 use super::causes::FaultShown;
-use super::text::{HexPlace, HexWord};
+use super::text::{HexByte, HexPlace};
 use cpu::machine::{Ending, Run};
 use std::alloc::{AllocError, Global};
 use std::fmt;
@@ -18,7 +18,7 @@ pub fn refusal_number(refusal: Refusal) -> u8
     refusal as u8
 }
 
-// How a run ended, to be written. What follows is one format! each: a Display for a borrowed answer would be no plainer.
+// How a run ended, to be written.
 #[derive(Clone, Copy)]
 struct EndingShown(Ending);
 
@@ -27,25 +27,30 @@ impl fmt::Display for EndingShown {
 
     fn fmt<W: fmt::Write>(&self, f: &mut fmt::Formatter<W>) -> fmt::Result {
         match self.0 {
-            Ending::Said(byte) => write!(f, "said 0x{byte:02x}"),
+            Ending::Said(byte) => write!(f, "said {}", HexByte(byte)),
             Ending::Ended => write!(f, "ended"),
             Ending::Spent => write!(f, "spent"),
             Ending::Waiting => write!(f, "waiting"),
-            Ending::Fault(fault) => {
-                let fault = FaultShown(fault);
-                write!(f, "{fault}")
-            }
+            Ending::Fault(fault) => write!(f, "{}", FaultShown(fault)),
         }
     }
 }
 
-fn run_text(heap: Global, run: Run) -> Result<String, AllocError>
-    ensures { IfOk result (λ t. string_bytes t ≡ run_text run) }
-{
-    let steps = run.steps;
-    let cycles = run.cycles;
-    let ending = EndingShown(run.ending);
-    format!(in heap; "{steps} steps, {cycles} cycles, {ending}")
+// A run, to be written.
+#[derive(Clone, Copy)]
+struct RunShown(Run);
+
+impl fmt::Display for RunShown {
+    ghost output = { λ x. Some (run_text x.0) };
+
+    fn fmt<W: fmt::Write>(&self, f: &mut fmt::Formatter<W>) -> fmt::Result {
+        let Run {
+            steps,
+            cycles,
+            ending,
+        } = self.0;
+        write!(f, "{steps} steps, {cycles} cycles, {}", EndingShown(ending))
+    }
 }
 
 fn yes_no(answer: bool) -> &'static str
@@ -54,29 +59,41 @@ fn yes_no(answer: bool) -> &'static str
     if answer { "yes" } else { "no" }
 }
 
-fn standing_text(heap: Global, standing: Standing) -> Result<String, AllocError>
-    ensures { IfOk result (λ t. string_bytes t ≡ standing_text standing) }
-{
-    let mode = standing.mode;
-    let pc = HexPlace(standing.pc);
-    let sp = HexWord(standing.sp);
-    let ie = HexWord(standing.enabled);
-    let lines = HexWord(standing.latched);
-    let handler = yes_no(standing.handling);
-    format!(in heap; "{mode}, pc {pc}, sp {sp}, ie {ie}, lines {lines}, handler {handler}")
+// Where a terminal stands, to be written.
+#[derive(Clone, Copy)]
+struct StandingShown(Standing);
+
+impl fmt::Display for StandingShown {
+    ghost output = { λ x. Some (standing_text x.0) };
+
+    fn fmt<W: fmt::Write>(&self, f: &mut fmt::Formatter<W>) -> fmt::Result {
+        let Standing {
+            mode,
+            pc,
+            sp,
+            enabled,
+            latched,
+            handling,
+        } = self.0;
+        let pc = HexPlace(pc);
+        let handler = yes_no(handling);
+        write!(
+            f,
+            "{mode}, pc {pc}, sp 0x{sp:04x}, ie 0x{enabled:04x}, lines 0x{latched:04x}, handler {handler}"
+        )
+    }
 }
 
-fn refusal_text(heap: Global, refusal: Refusal) -> Result<String, AllocError>
-    ensures { IfOk result (λ t. string_bytes t ≡ refusal_text refusal) }
-{
-    let number = refusal_number(refusal);
-    format!(in heap; "refused {number}")
-}
+// A refusal, to be written.
+#[derive(Clone, Copy)]
+struct RefusalShown(Refusal);
 
-fn byte_text(heap: Global, byte: u8) -> Result<String, AllocError>
-    ensures { IfOk result (λ t. string_bytes t ≡ hex_text 2 byte) }
-{
-    format!(in heap; "0x{byte:02x}")
+impl fmt::Display for RefusalShown {
+    ghost output = { λ x. Some (refusal_text x.0) };
+
+    fn fmt<W: fmt::Write>(&self, f: &mut fmt::Formatter<W>) -> fmt::Result {
+        write!(f, "refused {}", refusal_number(self.0))
+    }
 }
 
 // What a call answered, or why it was not made.
@@ -85,11 +102,11 @@ pub fn answer_text(heap: Global, answer: &Result<Answer, Unmade>) -> Result<Stri
 {
     match answer {
         Ok(Answer::Done | Answer::Opened(_)) => String::from_str(heap, "done"),
-        Ok(Answer::Ran(run)) => run_text(heap, *run),
-        Ok(Answer::Byte(byte)) => byte_text(heap, *byte),
-        Ok(Answer::Stands(standing)) => standing_text(heap, *standing),
-        Err(Unmade::Refused(refusal)) => refusal_text(heap, *refusal),
-        Err(Unmade::Unclosed(unclosed)) => refusal_text(heap, unclosed.refusal),
+        Ok(Answer::Ran(run)) => format!(in heap; "{}", RunShown(*run)),
+        Ok(Answer::Byte(byte)) => format!(in heap; "{}", HexByte(*byte)),
+        Ok(Answer::Stands(standing)) => format!(in heap; "{}", StandingShown(*standing)),
+        Err(Unmade::Refused(refusal)) => format!(in heap; "{}", RefusalShown(*refusal)),
+        Err(Unmade::Unclosed(unclosed)) => format!(in heap; "{}", RefusalShown(unclosed.refusal)),
     }
 }
 

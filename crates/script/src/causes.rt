@@ -3,7 +3,7 @@ ghost use Rattle.std.specs.Prelude.{◌≡◌, Some};
 ghost use Rattle.cpu.specs.Faults.{stop_of};
 ghost use Rattle.script.specs.Answers.{stop_text};
 
-use super::text::{HexPlace, HexWord};
+use super::text::HexPlace;
 use cpu::faults::{Cause, Fault};
 use std::fmt;
 
@@ -34,8 +34,7 @@ impl fmt::Display for FaultShown {
         let pc = HexPlace(self.0.pc);
         match self.0.cause {
             Cause::Bus(_, address) => {
-                let address = HexWord(address);
-                write!(f, "fault {number} bus at {pc} address {address}")
+                write!(f, "fault {number} bus at {pc} address 0x{address:04x}")
             }
             Cause::Unit(_, code) => write!(f, "fault {number} unit at {pc} code {code}"),
             _ => write!(f, "fault {number} core at {pc}"),

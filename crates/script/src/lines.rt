@@ -45,8 +45,7 @@ pub enum Line {
     Status,
 }
 
-// Heap and text go beside each other in these functions, since a type of both would only be taken apart again.
-
+// The functions from here on take the heap beside the text, since a type of both would only be taken apart again.
 fn read_entry(heap: Global, text: &[u8]) -> Result<Line, ReadError>
     ensures { Reads said_of result (entry_said text.now) }
 {

@@ -4,32 +4,28 @@ ghost use Rattle.script.specs.Text.{hex_text};
 
 use std::fmt;
 
-// Two types, since a place drops four bits before its digits and a word drops none: one type for any count of
-// digits would have to compute what it drops.
+// A byte, written with two digits.
+#[derive(Clone, Copy)]
+pub(crate) struct HexByte(pub u8);
+
+impl fmt::Display for HexByte {
+    ghost output = { λ x. Some (hex_text 2 x.0) };
+
+    fn fmt<W: fmt::Write>(&self, f: &mut fmt::Formatter<W>) -> fmt::Result {
+        // A byte that has a name is known to be below 256; of self.0 the proof had no bound.
+        let HexByte(byte) = *self;
+        write!(f, "0x{byte:02x}")
+    }
+}
 
 // A place in a program, which has twelve bits, written with three digits.
 #[derive(Clone, Copy)]
 pub(crate) struct HexPlace(pub u16);
 
-// Sixteen bits, written with four digits.
-#[derive(Clone, Copy)]
-pub(crate) struct HexWord(pub u16);
-
 impl fmt::Display for HexPlace {
     ghost output = { λ x. Some (hex_text 3 x.0) };
 
     fn fmt<W: fmt::Write>(&self, f: &mut fmt::Formatter<W>) -> fmt::Result {
-        let [high, low] = self.0.to_be_bytes();
-        let high = high % 16;
-        write!(f, "0x{high:x}{low:02x}")
-    }
-}
-
-impl fmt::Display for HexWord {
-    ghost output = { λ x. Some (hex_text 4 x.0) };
-
-    fn fmt<W: fmt::Write>(&self, f: &mut fmt::Formatter<W>) -> fmt::Result {
-        let [high, low] = self.0.to_be_bytes();
-        write!(f, "0x{high:02x}{low:02x}")
+        write!(f, "0x{:03x}", self.0 % 4096)
     }
 }

@@ -1,0 +1,9 @@
+use Rattle.std.proofs.Common.{◌∷◌, subst, arith}
+use Rattle.std.specs.Fmt.{HasWritten}
+use Rattle.script.proofs.WrittenHex.{byte_digits}
+use Rattle.script.proofs.text.HexByteDisplay.fmt.Goals as goal
+
+pub returns-clause-writes : goal.returns-clause-writes
+returns-clause-writes g c =
+    let w = rw (c.in_radix.ensures, c.laid_out.ensures) at c.write.ensures.writes in
+    λ plain ok. subst (λ l. HasWritten g.W.Write.write_str_gives c.args.f.now (48 ∷ 120 ∷ l) c.write.new.self) (byte_digits c.args.self.now.0 (omega arith)) (w plain ok)
