@@ -1,7 +1,6 @@
 // Answers as text.
 ghost use Rattle.std.specs.Prelude.{◌≡◌, ◌++◌, IfOk, Some, string_bytes, codes};
 ghost use Rattle.terminal.specs.Numbers.{number};
-ghost use Rattle.script.specs.Text.{hex_text};
 ghost use Rattle.script.specs.Answers.{ending_text, run_text, yes_no, standing_text, refusal_text, answer_text};
 
 use super::causes::FaultShown;

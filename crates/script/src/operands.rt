@@ -91,8 +91,8 @@ impl Operand for Seal {
         }
     }
 
-    // Words of its own: Display into a Vec of bytes fails with an io error.
     fn push_to(self, text: &mut Vec<u8>) -> Result<(), AllocError> {
+        // Words of its own: Display into a Vec of bytes fails with an io error.
         match self {
             Seal::Sealed => push_word(text, b"sealed"),
             Seal::Practice => push_word(text, b"practice"),

@@ -1,8 +1,8 @@
 // Lines as they are written.
-ghost use Rattle.std.specs.Prelude.{◌≡◌, ℕ, ◌<◌, List, [], ◌∷◌, ◌++◌, IfOk, OnOk};
+ghost use Rattle.std.specs.Prelude.{◌≡◌, ◌<◌, [], ◌∷◌, IfOk};
 ghost use Rattle.script.specs.Lines.{said_of};
 ghost use Rattle.script.specs.Text.{hex_digit, hex_of};
-ghost use Rattle.script.specs.Writes.{Adds, number_text, u8_text, u16_text, u32_text, unit_text, seal_text, operand_words, trail, written_of, Small, Sized, ReadBack};
+ghost use Rattle.script.specs.Writes.{Adds, number_text, u8_text, u16_text, seal_text, operand_words, trail, written_of, Small, Sized, ReadBack};
 
 use super::labels::first_word;
 use super::lines::Line;
