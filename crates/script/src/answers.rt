@@ -52,6 +52,7 @@ impl fmt::Display for RunShown {
     }
 }
 
+// An answer by a word: what a bool writes of itself is true or false.
 fn yes_no(answer: bool) -> &'static str
     ensures { result.now ≡ yes_no answer }
 {
