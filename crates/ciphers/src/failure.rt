@@ -1,4 +1,4 @@
-// Why a vector could not be run: one type with the player's would need its other causes and its name as parameters.
+// Why a vector could not be run: one type with the player's would need its causes and its name as parameters, and a crate of derives for one type is no plainer.
 use listing::hex::Fault;
 use std::alloc::{AllocError, AllocFailed};
 use std::{fmt, io};

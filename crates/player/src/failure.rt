@@ -1,4 +1,4 @@
-// Why nothing was done; each From says which case it gives, which those of a derive would not.
+// Why nothing was done; the Froms of want of memory say which case they give, which those of a derive would not.
 ghost use Rattle.std.specs.Prelude.{◌≡◌};
 ghost use Rattle.player.specs.declared.failure.Failure.TheVariants.{NoMemory};
 

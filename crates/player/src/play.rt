@@ -196,10 +196,9 @@ pub fn play(rt: &HostRuntime, text: &[u8]) -> Result<(), Failure> {
     let Wanted { cells, page, unit } = wanted_machine(heap, lines.as_slice())?;
     let mut memories = Memories::new(heap, cells)?;
     memories.fill(heap, lines.as_slice())?;
-    let store = match Store::new(memories.bytes.as_mut_slice(), memories.marks.as_mut_slice()) {
-        Ok(store) => store,
-        // not reached, as both memories have the same cells, 65536 at most: to say so would take lemmas on what fill leaves
-        Err(_) => return Err(Failure::NoMemory),
+    // The other case is not reached, both memories having the same cells, 65536 at most; one of its own would be no plainer.
+    let Ok(store) = Store::new(memories.bytes.as_mut_slice(), memories.marks.as_mut_slice()) else {
+        return Err(Failure::NoMemory);
     };
     match page {
         None => with_unit(rt, store, unit, lines.as_slice()),

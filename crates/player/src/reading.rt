@@ -66,7 +66,7 @@ impl Reading {
         Ok(())
     }
 
-    // Reads the next line, whose number is a part of what was read so far, as that is defined.
+    // Reads the next line, whose number is a part of what was read so far: counted outside, the two would have to be tied.
     fn take(&mut self, heap: Global, text: &[u8]) -> Result<(), Failure>
         requires { self.old.number + 1 < 2 ^ 64 }
         ensures number { self.new.number ≡ self.old.number + 1 }

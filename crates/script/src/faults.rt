@@ -1,4 +1,4 @@
-// Why a line of a script is not read.
+// Why a line of a script is not read; each From says which case it gives, which those of a derive would not.
 ghost use Rattle.std.specs.Prelude.{◌≡◌, Some};
 ghost use Rattle.script.specs.declared.faults.ReadError.TheVariants.{Wrong, NoMemory};
 ghost use Rattle.script.specs.Told.{fault_name};

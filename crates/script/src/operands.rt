@@ -114,6 +114,7 @@ impl Operand for UnitName {
     }
 
     fn push_to(self, text: &mut Vec<u8>) -> Result<(), AllocError> {
+        // Words of its own, as for a seal.
         match self {
             UnitName::Aes => push_word(text, b"aes"),
             UnitName::Cham => push_word(text, b"cham"),

@@ -18,7 +18,7 @@ fn hex_digit(n: u8) -> u8
     if n < 10 { b'0' + n } else { b'a' - 10 + n }
 }
 
-// Adds the digits of some bytes, two to a byte.
+// Adds the digits of some bytes, two to a byte: in lower case and to bytes, and so not by the String of `write_hex`.
 fn push_hex(text: &mut Vec<u8>, bytes: &[u8]) -> Result<(), AllocError>
     ensures { Adds text.old.items text.new.items result (hex_of bytes.now) }
 {
