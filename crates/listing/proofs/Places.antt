@@ -8,9 +8,8 @@ past_push : (p : Place) (cs : List ℕ) (c : ℕ) → past p (cs ++ (c ∷ [])) 
 past_push p [] c = refl
 past_push p (d ∷ cs) c = past_push (advanced p d) cs c
 
-pub past_more : (start p q : Place) (text : List ℕ) (i c : ℕ) → (i < length text) × (c ≡ get_or text i c) → p ≡ past start (take i text) → q ≡ advanced p c → q ≡ past start (take (i + 1) text)
-past_more start p q text i c here so next =
-    next ∙ ap (λ r. advanced r c) so ∙ sym (past_push start (take i text) c) ∙ ap (λ d. past start (take i text ++ (d ∷ []))) here.1 ∙ ap (past start) (sym (take_more text i c here.0))
+pub past_more : (start p q : Place) (text : List ℕ) (i : ℕ) → i < length text → p ≡ past start (take i text) → q ≡ advanced p (get_or text i 0) → q ≡ past start (take (i + 1) text)
+past_more start p q text i h so next = next ∙ ap (λ r. advanced r (get_or text i 0)) so ∙ sym (past_push start (take i text) (get_or text i 0)) ∙ ap (past start) (sym (take_more text i 0 h))
 
 -- a place is no further than the characters before it
 abbrev pub Within : Place → ℕ → Type 0

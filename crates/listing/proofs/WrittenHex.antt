@@ -1,8 +1,14 @@
 -- The digits of bytes are read as those bytes. Assumes nothing.
-use Rattle.std.proofs.Common.{◌≡◌, ℕ, suc, ◌+◌, ◌-◌, ◌*◌, ◌/◌, ◌%◌, ◌<◌, ◌≤◌, false, eqb, List, [], ◌∷◌, ◌++◌, length, get_or, take, Some, None, Ok, sym, refl, ap, ◌∙◌, arith, rules}
+use Rattle.std.proofs.Common.{◌≡◌, ℕ, suc, ◌+◌, ◌-◌, ◌*◌, ◌/◌, ◌%◌, ◌<◌, ◌≤◌, false, eqb, List, [], ◌∷◌, ◌++◌, length, get_or, take, Some, None, Ok, sym, refl, ap, ◌∙◌, append_assoc, subst, arith, rules}
+use lib.Utf8.{encode}
+use Rattle.std.proofs.lemmas.Str.Ascii.{encode_ascii}
 use Rattle.std.proofs.lemmas.List.{take_more}
+use Rattle.isa.specs.declared.Word.{Word}
+use Rattle.isa.specs.declared.Word.TheVariants.{One, Two}
 use Rattle.isa.specs.Text.{hex_digit}
 use Rattle.listing.specs.Digits.{digit_of, hex_of}
+use Rattle.listing.specs.declared.lines.Line.{Line}
+use Rattle.listing.specs.Lines.{bytes_of, word_bytes, word_text, words_text}
 use Rattle.listing.specs.Hex.{counted, paired, before, read_hex}
 use Rattle.listing.proofs.Reading.{counts, second_digit}
 
@@ -41,6 +47,37 @@ read_from_lem room at (b ∷ bs) small fits =
 pub read_back : (bs : List ℕ) → ((i : ℕ) → get_or bs i 0 < 256) → length bs ≤ 4096 → read_hex (hex_of bs) ≡ Ok bs
 read_back bs small fits = read_from_lem 4096 0 bs small fits
 
+-- a word as it is written is read as its bytes, whatever follows
+word_read : (room at : ℕ) (w : Word) (cs bs : List ℕ) → ((i : ℕ) → get_or (word_bytes w ++ bs) i 0 < 256) → length (word_bytes w ++ bs) ≤ room →
+    ((room at : ℕ) → length bs ≤ room → paired room None (counted false at cs) ≡ Ok bs) → paired room None (counted false at (word_text w ++ cs)) ≡ Ok (word_bytes w ++ bs)
+word_read room at (One a) cs bs small fits more =
+    one_byte room at a (32 ∷ (32 ∷ cs)) (small 0) (omega arith)
+    ∙ ap (before (a ∷ [])) (more (room - 1) (at + 1 + 1 + 1 + 1) (omega arith))
+word_read room at (Two a b) cs bs small fits more =
+    one_byte room at a (hex_of (b ∷ []) ++ cs) (small 0) (omega arith)
+    ∙ ap (before (a ∷ [])) (one_byte (room - 1) (at + 1 + 1) b cs (small 1) (omega arith) ∙ ap (before (b ∷ [])) (more (room - 1 - 1) (at + 1 + 1 + 1 + 1) (omega arith)))
+
+later_small : (w : Word) (bs : List ℕ) → ((i : ℕ) → get_or (word_bytes w ++ bs) i 0 < 256) → (i : ℕ) → get_or bs i 0 < 256
+later_small (One a) bs small i = small (suc i)
+later_small (Two a b) bs small i = small (suc (suc i))
+
+words_read : (room at : ℕ) (ls : List Line) → ((i : ℕ) → get_or (bytes_of ls) i 0 < 256) → length (bytes_of ls) ≤ room → paired room None (counted false at (words_text ls)) ≡ Ok (bytes_of ls)
+words_read room at [] small fits = refl
+words_read room at (l ∷ ls) small fits =
+    word_read room at l.word (words_text ls) (bytes_of ls) small fits (λ r n h. words_read r n ls (later_small l.word (bytes_of ls) small) h)
+
+pub words_read_back : (ls : List Line) (bs : List ℕ) → bytes_of ls ≡ bs → ((i : ℕ) → get_or bs i 0 < 256) → length bs ≤ 4096 → read_hex (words_text ls) ≡ Ok bs
+words_read_back ls bs whole small fits =
+    words_read 4096 0 ls (subst (λ l. (i : ℕ) → get_or l i 0 < 256) (sym whole) small) (subst (λ l. length l ≤ 4096) (sym whole) fits) ∙ ap (λ l. Ok l) whole
+
+-- a digit as a character is its one byte
+digit_bytes : {c n : ℕ} → c ≡ hex_digit n → n < 16 → encode c ≡ hex_digit n ∷ []
+digit_bytes {c} {n} e h = ap encode e ∙ encode_ascii (hex_digit n) (search rules)
+
 -- two digits more are one byte more
-pub byte_more : (bs : List ℕ) (i : ℕ) (text text₁ : List ℕ) → i < length bs → text ≡ hex_of (take i bs) → text₁ ≡ text ++ hex_of (get_or bs i 0 ∷ []) → text₁ ≡ hex_of (take (i + 1) bs)
-byte_more bs i text text₁ h so more = more ∙ ap (λ t. t ++ hex_of (get_or bs i 0 ∷ [])) so ∙ sym (hex_of_append (take i bs) (get_or bs i 0 ∷ [])) ∙ ap hex_of (sym (take_more bs i 0 h))
+pub byte_more : (bs : List ℕ) (i : ℕ) (text text₁ text₂ : List ℕ) (high low : ℕ) → i < length bs → get_or bs i 0 < 256 → text ≡ hex_of (take i bs) →
+    high ≡ hex_digit (get_or bs i 0 / 16) → low ≡ hex_digit (get_or bs i 0 % 16) → text₁ ≡ text ++ encode high → text₂ ≡ text₁ ++ encode low → text₂ ≡ hex_of (take (i + 1) bs)
+byte_more bs i text text₁ text₂ high low h small so hi lo one two =
+    let x = digit_bytes hi (omega arith) in
+    let y = digit_bytes lo (omega arith) in
+    two ∙ (λ j. (one ∙ (λ k. so k ++ x k)) j ++ y j) ∙ append_assoc (hex_of (take i bs)) _ _ ∙ sym (hex_of_append (take i bs) (get_or bs i 0 ∷ [])) ∙ ap hex_of (sym (take_more bs i 0 h))

@@ -52,6 +52,11 @@ abbrev pub word_text : Word → List ℕ
 word_text (One a) = hex_of (a ∷ []) ++ codes "  "
 word_text (Two a b) = hex_of (a ∷ b ∷ [])
 
+-- the words of all lines as they are written, one after another
+abbrev pub words_text : List Line → List ℕ
+words_text [] = []
+words_text (l ∷ ls) = word_text l.word ++ words_text ls
+
 -- a word that cannot be read, and is not reserved, is cut off
 abbrev pub reading_text : Result Instruction Refusal → List ℕ
 reading_text (Ok x) = instruction_text x

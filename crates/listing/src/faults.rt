@@ -68,7 +68,7 @@ pub fn place_of(text: &[u8], at: usize) -> Place
     ensures { result ≡ place_of text.now at }
 {
     let mut place = Place::default();
-    for b in text.iter().take(at) {
+    for b in &text[..at.min(text.len())] {
         place = place.after(*b);
     }
     place

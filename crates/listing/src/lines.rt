@@ -1,6 +1,7 @@
 // A program as lines, one to an instruction.
-ghost use Rattle.std.specs.Prelude.{◌≡◌, ◌-◌, ◌^◌, IfOk, Some, string_bytes};
-ghost use Rattle.listing.specs.Lines.{Below, counted_to, line_of, word_at, size_of, lines_of, bytes_of, line_text, word_text, reading_text, counts_of, summary_text, lines_text, listing_text};
+ghost use Rattle.std.specs.Prelude.{◌≡◌, ◌-◌, ◌^◌, ◌≤◌, length, IfOk, Some, Ok, string_bytes};
+ghost use Rattle.listing.specs.Hex.{read_hex};
+ghost use Rattle.listing.specs.Lines.{Below, counted_to, words_text, line_of, word_at, size_of, lines_of, bytes_of, line_text, word_text, reading_text, counts_of, summary_text, lines_text, listing_text};
 
 use isa::{Instruction, Refusal, Word, decode};
 use std::alloc::{AllocError, Global};
@@ -198,7 +199,8 @@ fn lines_text(heap: Global, lines: &[Line]) -> Result<String, AllocError>
 
 // A program's listing.
 pub fn listing_text(heap: Global, program: &[u8]) -> Result<String, AllocError>
-    ensures { IfOk result (λ t. string_bytes t ≡ listing_text program.now) }
+    ensures text { IfOk result (λ t. string_bytes t ≡ listing_text program.now) }
+    ensures read_back { IfOk result (λ _. length program.now ≤ 4096 → read_hex (words_text (lines_of 0 program.now)) ≡ Ok program.now) }
 {
     let lines = lines(heap, program)?;
     let text = lines_text(heap, lines.as_slice())?;

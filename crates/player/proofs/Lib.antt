@@ -1,2 +1,3 @@
+mod Names
 mod SplitLines
 mod Turns

@@ -1,6 +1,6 @@
 // Playing a script: the calls are made one by one, and each answer is a line.
 use super::failure::Failure;
-use super::intervals::{Intervals, find};
+use super::intervals::{Intervals, find, take};
 use super::memories::Memories;
 use super::reading::{Numbered, Wanted, read_script, wanted_machine};
 use super::totals::Totals;
@@ -117,7 +117,7 @@ impl<'r, B: Bus, U: Unit> Player<'r, B, U> {
     // Closes the interval of a name; a refusal hands it back.
     fn close(&mut self, label: &[u8], name: &[u8]) -> Result<(), Failure> {
         let heap = self.rt.alloc();
-        let Some((name, interval)) = self.open.remove_entry(name) else {
+        let Some((name, interval)) = take(&mut self.open, name) else {
             return self.pass_over(label, b"no interval");
         };
         let answer = single(heap, &mut self.terminal, Call::Close(interval))?;

@@ -60,7 +60,9 @@ impl Operand for u16 {
     }
 
     fn push_to(self, text: &mut Vec<u8>) -> Result<(), AllocError> {
-        push_number(text, &self.to_be_bytes())
+        // by name, the high byte first
+        let [high, low] = self.to_be_bytes();
+        push_number(text, &[high, low])
     }
 }
 

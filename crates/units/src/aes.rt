@@ -60,7 +60,8 @@ impl Direction {
         column.replace(mixed, joined(&whole));
     }
 
-    // The next call of the sequence.
+    // The next call of the sequence, inlined where it is called with one direction: a caller that repeats one code takes twice as long without.
+    #[inline]
     fn call(self, column: &mut Sequence, a: Marked, b: Marked) -> Reply
         ensures reply { result ≡ column_reply self column.old a b }
         ensures after { sequence_contents column.new ≡ column_after self column.old a b }

@@ -46,12 +46,18 @@ impl Sequence {
         self.bytes[at + 1] = b;
     }
 
-    // Replaces all four bytes by results with one mark.
+    // Replaces all four bytes by results with one mark: one by one, since a call that maps the array takes longer.
     pub(crate) fn replace(&mut self, bytes: [u8; 4], mark: Mark)
         ensures stage { self.new.stage ≡ self.old.stage }
         ensures bytes { self.new.bytes ≡ map (λ b. record { byte = b; mark = mark }) bytes }
     {
-        self.bytes = bytes.map(|byte| Marked { byte, mark });
+        let [p, q, r, s] = bytes;
+        self.bytes = [
+            Marked { byte: p, mark },
+            Marked { byte: q, mark },
+            Marked { byte: r, mark },
+            Marked { byte: s, mark },
+        ];
     }
 
     // Ends a call: the stage that is next, and the answer.

@@ -1,5 +1,4 @@
-use Rattle.std.proofs.Common.{◌≡◌, ◌++◌, true, get_or, string_bytes, ap, ◌∙◌, arith}
-use Rattle.std.proofs.lemmas.Fmt.{hex_byte}
+use Rattle.std.proofs.Common.{◌≡◌, string_bytes, ap, ◌∙◌, arith}
 use Rattle.std.proofs.lemmas.List.{take_all}
 use Rattle.listing.specs.Digits.{hex_of}
 use Rattle.listing.specs.Hex.{read_hex}
@@ -8,11 +7,12 @@ use Rattle.listing.proofs.hex.write_hex.Goals as goal
 
 pub loop-byte-preserved : goal.loop-byte-preserved
 loop-byte-preserved c =
-    let bytes = c.args.bytes.now in
-    let i = c.loop-byte.byte-index in
-    let w = rw (c.in_radix.ensures, c.laid_out.ensures) at c.in_ok-write.ensures.bytes in
-    byte_more bytes i _ (string_bytes c.write.new.self) (omega arith) c.loop-byte.invariant
-    (w ∙ ap (λ l. string_bytes c.loop-byte.text ++ l) (hex_byte true (get_or bytes i 0) (omega (arith, c.type_inv.bytes i))))
+    byte_more c.args.bytes.now c.loop-byte.byte-index
+    (string_bytes c.loop-byte.text) (string_bytes c.push.new.self) (string_bytes c.push-in-loop-byte.new.self)
+    c.hex_digit.result c.hex_digit-in-loop-byte.result
+    (omega arith) (omega (arith, c.type_inv.bytes c.loop-byte.byte-index))
+    c.loop-byte.invariant c.hex_digit.ensures c.hex_digit-in-loop-byte.ensures
+    c.in_ok-push.ensures.bytes c.in_ok-push-2.ensures.bytes
 
 pub returns : goal.returns
 returns c =

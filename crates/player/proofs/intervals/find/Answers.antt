@@ -1,7 +1,6 @@
-use Rattle.std.proofs.Common.{◌∙◌}
-use Rattle.std.proofs.lemmas.Map.Text.{is_eq-slice_cmp}
-use Rattle.std.specs.Map.{lookup}
+use Rattle.std.proofs.Common.{◌∙◌, rules}
+use Rattle.player.proofs.Names.{named}
 use Rattle.player.proofs.intervals.find.Goals as goal
 
 pub returns : goal.returns
-returns c = c.get.ensures.value ∙ (λ i. lookup (λ n. is_eq-slice_cmp c.args.name.now n.items i) c.args.open.now.entries)
+returns c = let got = c.get.ensures.value ∙ named c.args.name.now c.args.open.now.entries in search rules
